@@ -139,6 +139,14 @@ pub some_at : (rows : List TableRow) (i : ℕ) → i < length rows → (r : Tabl
     × (rest : List TableRow) × (drop i rows ≡ r ∷ rest)
 some_at rows i h = first_of (drop i rows) (omega (arith, length-drop i rows))
 
+-- the row read at a place is the first from there on
+read_at : (rows : List TableRow) (i : ℕ) (r : TableRow) (rest : List TableRow) → drop i rows ≡ r ∷ rest
+    → get_or rows i r ≡ r
+read_at rows i r rest e =
+    let place : i + 0 ≡ i = omega arith in
+    sym (ap (λ (k : ℕ). get_or rows k r) place) ∙ sym (get_or-drop i rows 0 r)
+    ∙ ap (λ (rs : List TableRow). get_or rs 0 r) e
+
 -- the row at a place, from the facts about it and its points
 pub row_got : (rows : List TableRow) (i : ℕ) (row : Row) (own : List Point) → i < length rows
     → ((r : TableRow) (rest : List TableRow) → drop i rows ≡ r ∷ rest → row_with row r.points ≡ r)
@@ -148,11 +156,8 @@ row_got rows i row own within whole points =
     let found = some_at rows i within in
     let same : row_with row own ≡ found.0 = ap (row_with row) (points found.0 found.1 found.2)
     ∙ whole found.0 found.1 found.2 in
-    let place : i + 0 ≡ i = omega arith in
-    let read : found.0 ≡ get_or rows i found.0 = ap (λ (rs : List TableRow). get_or rs 0 found.0)
-    (sym found.2) ∙ get_or-drop i rows 0 found.0 ∙ ap (λ (k : ℕ). get_or rows k found.0)
-    place in
-    slice_get_read rows (length rows) i found.0 refl within read ∙ ap (λ (r : TableRow). Some r) (sym same)
+    slice_get_read rows (length rows) i found.0 refl within (sym (read_at rows i found.0 found.1 found.2))
+    ∙ ap (λ (r : TableRow). Some r) (sym same)
 
 -- ==== The open rows of a form, by its kept nodes.
 
@@ -232,11 +237,7 @@ pub last_level : (rows : List TableRow) (i : ℕ) (row : Row) → i + 1 ≡ leng
 last_level rows i row last whole =
     let found = some_at rows i (omega (arith, last)) in
     let same : row.depth ≡ found.0.depth = ap (λ (r : TableRow). r.depth) (whole found.0 found.1 found.2) in
-    let place : i + 0 ≡ i = omega arith in
-    let read : get_or rows i found.0 ≡ found.0 = sym (ap (λ (k : ℕ). get_or rows k found.0) place)
-    ∙ (sym (get_or-drop i rows 0 found.0) ∙ ap (λ (rs : List TableRow). get_or rs 0 found.0)
-    found.2) in
     let here : get_or (depths rows) i 0 ≡ found.0.depth = get_or-map depth_of rows i found.0 0
-    (omega (arith, last)) ∙ ap depth_of read in
+    (omega (arith, last)) ∙ ap depth_of (read_at rows i found.0 found.1 found.2) in
     let end = last_depth (depths rows) i (last ∙ sym (length-map rows depth_of)) in
     omega (arith, open_levels rows, end, here, same)

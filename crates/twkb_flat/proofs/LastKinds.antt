@@ -43,7 +43,8 @@ rows_end (e ∷ f ∷ es) ps h =
       whole = ap (λ (rs : List TableRow). first ∷ rs) more.whole;
     }
 
-some_behind : (front : List TableRow) (last : TableRow) → [] ≡ front ++ last ∷ [] → ⊥
+-- rows that end in one are not none
+pub some_behind : (front : List TableRow) (last : TableRow) → [] ≡ front ++ last ∷ [] → ⊥
 some_behind front last t = absurd
     (omega (arith, ap (λ (rs : List TableRow). length rs) t, length-append front (last ∷ [])))
 

@@ -27,6 +27,7 @@ use Rattle.twkb_flat.specs.declared.kept_nodes.PlacedRow.{PlacedRow}
 use Rattle.twkb_flat.specs.declared.kept_nodes.KeptNode.{KeptNode}
 use Rattle.twkb_flat.specs.KeptNodes.{IsFlat, Laid, listed, placed_of, next_of, placed_depth, depths_in, links_in}
 use Rattle.twkb_flat.specs.KeptNodes.{longer, last_longer, LastHasRoom}
+use Rattle.twkb_flat.proofs.LastKinds.{some_behind}
 use Rattle.twkb_flat.proofs.RowLemmas.{flat_points, laid_within}
 
 -- ==== What is true of the rows of a flat form, and what determines its nodes.
@@ -218,11 +219,7 @@ pub record StandFor (rows : List TableRow) (es : List KeptNode) (ps : List Point
 -- there is a placed row
 some_placed : (ss : List PlacedRow) (ps : List Point) (rows : List TableRow)
     → listed ss ps ≡ rows → EndsInLine rows → 0 < length ss
-some_placed [] ps rows view e = absurd (omega (
-  arith,
-  ap (λ (rs : List TableRow). length rs) (view ∙ e.whole),
-  length-append e.front (e.last ∷ []),
-))
+some_placed [] ps rows view e = absurd (some_behind e.front e.last (view ∙ e.whole))
 some_placed (s ∷ ss) ps rows view e = omega arith
 
 -- the rows have the points

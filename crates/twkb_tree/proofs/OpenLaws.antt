@@ -557,24 +557,20 @@ accepts_unrefused l before r e =
     let h = passes l (steps_to r.depth before) (parent r.depth before) (first_child r.depth before)
     (length (geometry_rows r.depth before)) (point_count (geometry_rows r.depth before)) r e in
     record {
-      admitted = joined l (steps_to r.depth before) (parent r.depth before)
-          (first_child r.depth before) (length (geometry_rows r.depth before))
-          (point_count (geometry_rows r.depth before)) r h;
+      admitted = joined _ _ _ _ _ _ _ h;
       nest = h.nest;
-      nodes = below_test (length (geometry_rows r.depth before)) l.nodes h.nodes_left;
+      nodes = below_test _ _ h.nodes_left;
       in_range = points_in_range r.points h.in_range;
-      points = within_test (point_count (geometry_rows r.depth before) + length r.points) l.points h.points_left;
+      points = within_test _ _ h.points_left;
     }
 
 -- a row that is accepted is not refused
 pub accepted_unrefused : (l : Allowance) (before : List Row) (r : Row) → Accepts l before r
     → refusal_after l before r ≡ None
 accepted_unrefused l before r a =
-    let nodes = length (geometry_rows r.depth before) in
-    let points = point_count (geometry_rows r.depth before) in
-    passed l (steps_to r.depth before) (parent r.depth before) (first_child r.depth before) nodes points r
-    (apart l (steps_to r.depth before) (parent r.depth before) (first_child r.depth before) nodes
-    points r a.admitted a.nest a.nodes a.in_range a.points)
+    passed _ _ _ _ _ _ _ (apart l (steps_to r.depth before) (parent r.depth before)
+    (first_child r.depth before) (length (geometry_rows r.depth before))
+    (point_count (geometry_rows r.depth before)) r a.admitted a.nest a.nodes a.in_range a.points)
 
 -- ---- the tests that compute
 

@@ -17,15 +17,7 @@ use Rattle.twkb_tree.proofs.OpenLaws.{no_open_parent, open_parent_at}
 pub root_stands : (d : ℕ) (rows : List OpenRow) (nodes points : ℕ) → d ≡ 0 → (d ≤ length rows)
     × ◌≡◌ {A = RowPlace} (record { depth = d; parent = None; nodes = 0; points = 0 })
     (row_place_at d rows nodes points)
-root_stands zero rows nodes points e = (
-  omega arith,
-  ap (λ (p : Option OpenRow). record {
-    depth = 0;
-    parent = p;
-    nodes = 0;
-    points = 0;
-  }) (sym (no_open_parent rows)),
-)
+root_stands zero rows nodes points e = (omega arith, rw (no_open_parent rows) refl)
 root_stands (suc d) rows nodes points e = absurd (omega arith)
 
 -- any other row's parent is the open row one level above it
@@ -41,15 +33,7 @@ pub below_stands : (d : ℕ) (rows : List OpenRow) (nodes points : ℕ) (blank :
 below_stands zero rows nodes points blank deep lt = absurd (deep refl)
 below_stands (suc d) rows nodes points blank deep lt =
     let above : suc d - 1 ≡ d = omega arith in
-    let parent = ap (λ i. Some (get_or rows i blank)) above ∙ sym (open_parent_at d rows blank (omega arith)) in (
-      omega arith,
-      ap (λ (p : Option OpenRow). record {
-        depth = suc d;
-        parent = p;
-        nodes = nodes;
-        points = points;
-      }) parent,
-    )
+    (omega arith, rw (above, open_parent_at d rows blank (omega arith)) refl)
 
 -- ---- the first test of a row that fails
 
