@@ -1,26 +1,23 @@
 -- The sending of a table and its result for the caller of a conversion.
 use lib.Dec.{eqb}
-use Rattle.std.proofs.Common.{◌*◌}
 use Rattle.std.specs.Prelude.{OnOk, not, ℤ}
 use Rattle.std.proofs.lemmas.Bool.{eqb-false, eqb-true}
 use Rattle.twkb_points.specs.Point.{Point}
 use Rattle.twkb_io.specs.declared.TheConstants.{MAX_BYTES}
 use Rattle.twkb_io.specs.declared.output.OutFault.TheVariants as out
 use Rattle.twkb_io.specs.Taps.{has_unflushed}
-use Rattle.twkb_tree.specs.Tree.{flat, nodes, saturated, Simple, point, IsTree, IsPrecision}
-use Rattle.twkb_tree.specs.Rows.{row_points, own_row}
+use Rattle.twkb_tree.specs.Tree.{nodes, saturated, Simple, point, IsTree, IsPrecision}
+use Rattle.twkb_tree.specs.Rows.{own_row}
 use Rattle.twkb_grammar.specs.Spans.{geometries}
-use Rattle.twkb_writer.specs.declared.sizes.Entry.{Entry}
-use Rattle.twkb_writer.specs.MeasuredRows.{Counted, Measures}
-use Rattle.twkb_writer.specs.Reads.{Reads}
+use Rattle.twkb_writer.specs.MeasuredRows.{Measures}
 use Rattle.twkb_writer.specs.PointBlob.{one_point}
 use Rattle.twkb_table.specs.RowReading.{waiting}
-use Rattle.twkb_table.specs.TableReading.{GivesNext, HaveGiven, MeetsEnd, StandsAfter, is_ended}
+use Rattle.twkb_table.specs.TableReading.{GivesRows, HaveGiven, Progress, ReachesEnd, StandsAfter, StandsAt, progress}
 use Rattle.twkb_table.specs.TableReading as Table
 use Rattle.twkb_table.specs.declared.table_fault.TableFault.{TableFault}
 use Rattle.twkb_table.specs.declared.table_reader.TableReader.{TableReader}
 use Rattle.twkb_table.specs.declared.table_fault.TableFault.TheVariants as table_fault
-use Rattle.twkb_table.specs.Waiting.{point_row}
+use Rattle.twkb_table.specs.Waiting.{is_over, point_row}
 use Rattle.twkb_table.proofs.TableSteps.{all_but_last-last, names_so_far, text_begins}
 use Rattle.twkb_convert.specs.CountedWork.{AddsWork, IsWorkOf, points, total, no_work}
 use Rattle.twkb_convert.specs.WrittenBlob.{CutsBlob, WritesBlob}
@@ -100,12 +97,12 @@ ready_gave l told records given (root ∷ more) ended begins all (last, named, s
 
 -- the geometries that a table gave may be written
 pub ready_after : {R : Type 0} (l : Allowance) (remaining : R → Option (List ℕ))
-    (told : Option (List ℕ)) (records : List Record) (given : List Tree) (table : TableReader R)
-    → StandsAfter l remaining told records given table → MayBeWritten l told given
-ready_after l remaining told records given table s =
-    ready_gave l told records given (waiting table.rows) (is_ended table)
-    (text_begins remaining told records table s.source)
-    (λ over. subst (λ e. standing remaining told records e table.reader) over s.source) s.gave
+    (told : Option (List ℕ)) (records : List Record) (given : List Tree) (now : Progress R)
+    → StandsAt l remaining told records given now → MayBeWritten l told given
+ready_after l remaining told records given now s =
+    ready_gave l told records given (waiting now.rows) (is_over now.rows.state)
+    (text_begins remaining told records now s.source)
+    (λ over. subst (λ e. standing remaining told records e now.source) over s.source) s.gave
 
 -- ---- geometries that were sent
 
@@ -157,7 +154,7 @@ module _ {R W : Type 0} {style : Style} {l : Allowance} {remaining : R → Optio
       (s : SentSoFar style l remaining contents told from old mid before) (after : Sent) where
     -- one more geometry was sent
     pub sent_more : {to : TableReader R} {new : Output W} {rows : List Row}
-        (gives : GivesNext l remaining told s.records s.geometries rows to)
+        (gives : GivesRows l remaining told s.records s.geometries rows (progress to))
         → after.geometries ≡ before.geometries + 1
         → WritesBlob style contents gives.geometry mid before.work new after.work
         → SentSoFar style l remaining contents told to old new after
@@ -183,7 +180,7 @@ module _ {R W : Type 0} {style : Style} {l : Allowance} {remaining : R → Optio
         later = [];
         front = [];
         rest = [];
-        ready = rw append-nil (ready_after l remaining told s.records s.geometries from s.stands);
+        ready = rw append-nil (ready_after l remaining told s.records s.geometries (progress from) s.stands);
         cut = refl;
         bytes = sym (append-nil (canonical_stream style s.geometries));
       };
@@ -224,12 +221,12 @@ module _ {R W : Type 0} {style : Style} {l : Allowance} {remaining : R → Optio
     cut_ends given _ later front long unspent = tt
 
     -- the output refused a prefix of the next blob
-    pub ends_cut : {to : TableReader R} {new : Output W} {f : OutFault} {rows : List Row}
-        (given : ℕ) (gives : GivesNext l remaining told s.records s.geometries rows to)
+    pub ends_cut : {now : Progress R} {new : Output W} {f : OutFault} {rows : List Row}
+        (given : ℕ) (gives : GivesRows l remaining told s.records s.geometries rows now)
         → after.geometries ≡ before.geometries
         → Cut contents mid (canonical_blob style gives.geometry) f new
         → SendsTable style l contents told given old new after (Err (cause_of_output f))
-    ends_cut {to = to} {new = new} {f = f} given gives same cut =
+    ends_cut {now = now} {new = new} {f = f} given gives same cut =
         let fresh : is_spent mid ≡ false = s.took.spent ∙ s.fresh in
         record {
           bytes = canonical_stream style s.geometries ++ cut.front;
@@ -238,7 +235,7 @@ module _ {R W : Type 0} {style : Style} {l : Allowance} {remaining : R → Optio
             later = gives.geometry ∷ [];
             front = cut.front;
             rest = cut.rest;
-            ready = ready_after l remaining told gives.seen (s.geometries ++ gives.geometry ∷ []) to gives.stands;
+            ready = ready_after l remaining told gives.seen (s.geometries ++ gives.geometry ∷ []) now gives.stands;
             cut = append-nil (canonical_blob style gives.geometry) ∙ cut.whole;
             bytes = refl;
           };
@@ -260,8 +257,8 @@ module _ {R W : Type 0} {style : Style} {l : Allowance} {remaining : R → Optio
         }
 
     -- the blob of the next geometry was not sent whole
-    pub ends_blob : {to : TableReader R} {new : Output W} {why : Cause} {rows : List Row}
-        (given : ℕ) (gives : GivesNext l remaining told s.records s.geometries rows to)
+    pub ends_blob : {now : Progress R} {new : Output W} {why : Cause} {rows : List Row}
+        (given : ℕ) (gives : GivesRows l remaining told s.records s.geometries rows now)
         → after.geometries ≡ before.geometries → CutsBlob style contents gives.geometry mid why new
         → SendsTable style l contents told given old new after (Err why)
     ends_blob given gives same (inl (memory, unsent)) =
@@ -271,8 +268,8 @@ module _ {R W : Type 0} {style : Style} {l : Allowance} {remaining : R → Optio
   module _ {from : TableReader R} {old mid : Output W} {sent : Sent}
       (s : SentSoFar style l remaining contents told from old mid sent) where
     -- the table was read to its end
-    pub ends_table : {to : TableReader R} (given : ℕ)
-        → MeetsEnd l remaining told s.records s.geometries to
+    pub ends_table : {now : Progress R} (given : ℕ)
+        → ReachesEnd l remaining told s.records s.geometries now
         → SendsTable style l contents told given old mid sent (Ok tt)
     ends_table given meets = sent_whole s sent given (Ok tt) refl refl (record {
       table = record {
@@ -569,8 +566,8 @@ point_work p q old new m = record {
 -- ---- its blob
 
 module _ {R : Type 0} {l : Allowance} {remaining : R → Option (List ℕ)} {told : Option (List ℕ)}
-    {records : List Record} {given : List Tree} {p : ℤ} {q : Point} {to : TableReader R}
-    (gives : GivesNext l remaining told records given (point_row p q ∷ []) to) where
+    {records : List Record} {given : List Tree} {p : ℤ} {q : Point} {now : Progress R}
+    (gives : GivesRows l remaining told records given (point_row p q ∷ []) now) where
   -- the geometry is the point
   is_point : gives.geometry ≡ one_point p q
   is_point = point_tree gives.geometry p q gives.rows

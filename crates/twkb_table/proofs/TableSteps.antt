@@ -24,10 +24,9 @@ use Rattle.twkb_table.specs.NumberedRecords.{MissesRecord, ReadsRecord, fault_of
 use Rattle.twkb_table.specs.Waiting.{waiting_rows, is_over, is_stopped}
 use Rattle.twkb_table.specs.RowReading.{limits_of, JudgedAfter, GoesOn, EndsBefore, Refuses, ReadsRow}
 use Rattle.twkb_table.specs.TableReading.{NameSoFar, Extends, Explains, HaveGiven, Progress}
-use Rattle.twkb_table.specs.TableReading.{NameReading, IsReading, Reaches, Completes, is_ended, records_read}
+use Rattle.twkb_table.specs.TableReading.{NameReading, IsReading, Reaches, Completes, records_read}
 use Rattle.twkb_table.specs.TableReading.{GivesRows, FaultsIn, IsMarked, ReadsNextRow}
 use Rattle.twkb_table.specs.declared.table_fault.TableFault.{TableFault}
-use Rattle.twkb_table.specs.declared.table_reader.TableReader.{TableReader}
 use Rattle.twkb_table.specs.declared.table_fault.TableFault.TheVariants as fault
 use Rattle.twkb_table.specs.declared.row_reader.RowReader.{RowReader}
 use Rattle.twkb_table.specs.declared.row_reader.State.{State}
@@ -46,10 +45,11 @@ begins_none None = tt
 begins_none (Some text) = (st.StartRecord, strip_bom text, (refl, refl))
 
 pub text_begins : {R : Type 0} (remaining : R → Option (List ℕ)) (told : Option (List ℕ))
-    (records : List Record) (reader : TableReader R)
-    → standing remaining told records (is_ended reader) reader.reader
+    (records : List Record) (now : Progress R)
+    → standing remaining told records (is_over now.rows.state) now.source
     → IfSome told (λ text. BeginWith text records)
-text_begins remaining told records reader s = row_place_begins remaining told records (is_ended reader) reader.reader s
+text_begins remaining told records now s =
+    row_place_begins remaining told records (is_over now.rows.state) now.source s
 
 more_extends : (records seen : List Record) (here : Record) → Extends records seen
     → Extends records (seen ++ here ∷ [])
