@@ -86,12 +86,12 @@ pub rows_of_text : (l : Allowance) (bytes : List ℕ) (old_rows new_rows : List 
     → UnpackedSlice l bytes text done → AreSameRows text old_rows old_points new_rows new_points
 rows_of_text l bytes old_rows new_rows old_points new_points counts text done read zero
     unpacked = record {
-  rs = rows_of read.given;
-  text_is = unpacked.written_is
-      ∙ ap table_text (sym (all_given unpacked.found read zero unpacked.stream_is));
-  rows_are = read.filled.rows_are;
-  points_are = read.filled.points_are;
-}
+      rs = rows_of read.given;
+      text_is = unpacked.written_is
+          ∙ ap table_text (sym (all_given unpacked.found read zero unpacked.stream_is));
+      rows_are = read.filled.rows_are;
+      points_are = read.filled.points_are;
+    }
 
 -- the number of a reason of the grammar
 fault_number : grammar.Reason → ℕ
@@ -148,5 +148,6 @@ refused_alike l bytes old_rows new_rows old_points new_points counts text done (
     )
 refused_alike l bytes old_rows new_rows old_points new_points counts text done (cause.Row number r) report read one
     few front refused tells = absurd front.explains
-refused_alike l bytes old_rows new_rows old_points new_points counts text done _ report read one few front refused tells =
+refused_alike l bytes old_rows new_rows old_points new_points counts text done _ report read one few
+    front refused tells =
     absurd refused

@@ -35,13 +35,15 @@ pub stopped : {gs : List Tree} {old : Session} (blobs : List ℕ) (used : ℕ) (
     → FedSession (take used blobs) gs (rest_of blobs used) (Err why) new
     → EndsReading {A = Unit {0}} (session_limits old) blobs gs (Err why)
 stopped blobs used new fault.Memory at kept fed = begins blobs used at
-stopped blobs used new (fault.Device why) at kept fed =
-    (omega (
-      arith,
-      fed.1.past,
-      length-append (take used blobs) (rest_of blobs used),
-      ap (λ (b : List ℕ). length b) (parts_join blobs used),
-    ), begins blobs used at)
+stopped blobs used new (fault.Device why) at kept fed = (
+  omega (
+    arith,
+    fed.1.past,
+    length-append (take used blobs) (rest_of blobs used),
+    ap (λ (b : List ℕ). length b) (parts_join blobs used),
+  ),
+  begins blobs used at,
+)
 stopped blobs used new fault.Spent at kept fed = absurd fed
 stopped blobs used new (fault.At offset reason) at kept fed =
     rw (kept, append_assoc, take-append-drop, parts_join blobs used) at

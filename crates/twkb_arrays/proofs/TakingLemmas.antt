@@ -75,7 +75,7 @@ filled_lengths : {start_rows in_rows : List BufferRow} {start_points in_points :
     → (length in_rows ≡ length start_rows) × (length in_points ≡ length start_points)
 filled_lengths {start_rows = start_rows} {start_points = start_points} {gs = gs} f = (
   laid_length (array_rows gs) start_rows (sym (length-map (rows_of gs) row_in_c)) f.rows_are
-  f.room.0,
+      f.room.0,
   laid_length (array_points gs) start_points (sym (length-coordinates_of (row_points (rows_of gs))))
       f.points_are f.room.1,
 )
@@ -97,8 +97,11 @@ within {given = given} h =
 -- a geometry was read that has this many rows and points
 abbrev pub counted_with : Taken → ℕ → ℕ → Taken
 counted_with t n m =
-    record t { needed_rows = saturated (t.needed_rows + n); needed_points = saturated
-        (t.needed_points + m) }
+    record t {
+      needed_rows = saturated (t.needed_rows + n);
+      needed_points = saturated
+          (t.needed_points + m);
+    }
 
 -- one more geometry was read
 module _ {start_rows in_rows : List BufferRow} {start_points in_points : List BufferPoint}
@@ -114,8 +117,11 @@ module _ {start_rows in_rows : List BufferRow} {start_points in_points : List Bu
   needed hs is =
       let rows_are = count_more (given ++ later) g form same in
       let points_are = point_count_more (given ++ later) g form same in
-      rw is (omega (arith, rows_are, h.needed_rows_is), omega
-      (arith, points_are, h.needed_points_is))
+      rw is (
+        omega (arith, rows_are, h.needed_rows_is),
+        omega
+            (arith, points_are, h.needed_points_is),
+      )
 
   -- it was counted, and not taken
   not_taken : (full : Bool)

@@ -127,8 +127,13 @@ room_for_first : (in_rows : List BufferRow) (in_points : List BufferPoint) (gs h
 room_for_first in_rows in_points gs hs room =
     let all : rows_of (gs ++ hs) ≡ rows_of gs ++ rows_of hs = flat_map-append (rows 0) gs hs in
     let points = ap row_points all ∙ row_points-append (rows_of gs) (rows_of hs) in (
-      omega (arith, room.0, ap (λ (xs : List Row). length xs) all, length-append (rows_of gs)
-      (rows_of hs)),
+      omega (
+        arith,
+        room.0,
+        ap (λ (xs : List Row). length xs) all,
+        length-append (rows_of gs)
+            (rows_of hs),
+      ),
       omega (
         arith,
         room.1,
@@ -143,7 +148,9 @@ all_taken : (in_rows : List BufferRow) (in_points : List BufferPoint) (given lat
 all_taken in_rows in_points given [] room stops = refl
 all_taken in_rows in_points given (g ∷ later) room stops =
     let first = room_for_first in_rows in_points (given ++ g ∷ []) later (rw append_assoc room) in
-    absurd (elim stops [ inl few ↦ omega (arith, few, first) | inr few ↦ omega (arith, few, first)
+    absurd (elim stops [
+      | inl few ↦ omega (arith, few, first)
+      | inr few ↦ omega (arith, few, first)
     ])
 
 -- what is written at the start of a list, by its own length
@@ -180,10 +187,13 @@ read_back l given old new counts cap trip =
           elim (by_status l bytes (trip.read.given ++ trip.read.later) trip.read.answer counts.status status
           trip.read.ended all.1) [
             | inl memory ↦ inl memory
-            | inr done ↦ inr (done, record {
-              rows_are = laid_as old.rows w.are.rows_are row_count rows_are;
-              points_are = laid_as old.points w.are.points_are point_count points_are;
-            })
+            | inr done ↦ inr (
+              done,
+              record {
+                rows_are = laid_as old.rows w.are.rows_are row_count rows_are;
+                points_are = laid_as old.points w.are.points_are point_count points_are;
+              },
+            )
           ]
     ]
 

@@ -212,8 +212,12 @@ ended_one {l = l} {style = style} {start = start} {old = old} w new blob some ma
     let (g, valid, same) = one_of l old.open_geometry some w.read.begun_valid in
     let (given, later, all, sent) = sends style start w.given w.later g w.sent
     (made g valid.tree same) in
-    record { given = given; later = later; read = rw (all, closed) (read_whole g w.read valid same);
-        sent = sent }
+    record {
+      given = given;
+      later = later;
+      read = rw (all, closed) (read_whole g w.read valid same);
+      sent = sent;
+    }
 
 -- ==== A row of an array, and the row of a geometry that it stands for.
 
@@ -381,20 +385,20 @@ pub lacks_memory : {l : Allowance} {style : Style} {start before after : List �
     → StopsWriting l style start (in_rows ++ more) (in_points ++ ahead) after sent stop.Memory
 lacks_memory {in_rows = in_rows} {in_points = in_points} {old = old} w more ahead same_output
     same = (
-  w.given,
-  w.later,
-  rw (same_output, same) w.sent,
-  record {
-    begun = old.open_geometry;
-    front_rows = in_rows;
-    more = more;
-    front_points = in_points;
-    ahead = ahead;
-    rows_are = refl;
-    points_are = refl;
-    read = w.read;
-  },
-)
+      w.given,
+      w.later,
+      rw (same_output, same) w.sent,
+      record {
+        begun = old.open_geometry;
+        front_rows = in_rows;
+        more = more;
+        front_points = in_points;
+        ahead = ahead;
+        rows_are = refl;
+        points_are = refl;
+        read = w.read;
+      },
+    )
 
 -- what is known of a row that is not read
 pub row_not_read : {sent : Sent} (l : Allowance) (style : Style) (before after : List ℕ)

@@ -15,7 +15,7 @@ are_more (g ∷ later) = true
 -- There was room for the first geometries, of which this is the number, and not for the first of
 -- those after them, if there are some: this is whether there are.
 pub record Fit (lacks : List Tree → Type 0) (given later : List Tree) (full : Bool)
-  (done : ℕ) : Type 0 where
+    (done : ℕ) : Type 0 where
   pub stops : StopsBefore lacks given later
   pub full_is : full ≡ are_more later
   pub done_is : done ≡ length given

@@ -66,8 +66,7 @@ IsNearest-more above below less whole more near = record {
 -- a fraction that is at least a whole number is nearest to none below that
 pub nearest_from : {above below less whole : ℕ} (least : ℕ) → IsNearest above below less whole
     → 0 < below → less ≤ 1 → least * below ≤ above → least ≤ whole
-nearest_from {below = below} {whole = whole} least near some few large = elim (cases_lt whole least)
-    [
+nearest_from {below = below} {whole = whole} least near some few large = elim (cases_lt whole least) [
   | inl fewer ↦
       let up : below * (whole + 1) ≤ below * least = mul-le-mul_left below (omega arith) in
       absurd (omega (arith, up, near.less_than_half_under))

@@ -507,12 +507,12 @@ pub rounds_to : {factor divisor : ℕ} {numbers : List ℕ} {old new : List ℤ}
     → FindsUnit factor divisor (get_or numbers count 0) None → RoundsFront factor divisor numbers old new count
 rounds_to {factor = factor} {divisor = divisor} {numbers = numbers} {count = count} before some
     refused = record {
-  within = omega arith;
-  rounded = before.rounded;
-  left = before.left;
-  stopped = λ number next.
-      subst (λ (n : ℕ). FindsUnit factor divisor n None) (get_or_from_slice_get numbers count number 0 next) refused;
-}
+      within = omega arith;
+      rounded = before.rounded;
+      left = before.left;
+      stopped = λ number next.
+          subst (λ (n : ℕ). FindsUnit factor divisor n None) (get_or_from_slice_get numbers count number 0 next) refused;
+    }
 
 -- no number is left
 pub rounds_all : {factor divisor : ℕ} {numbers : List ℕ} {old new : List ℤ} {count : ℕ}

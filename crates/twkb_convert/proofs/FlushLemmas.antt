@@ -16,7 +16,8 @@ use Rattle.twkb_convert.specs.Listed.{ExplainsListingCause}
 use Rattle.twkb_convert.specs.declared.report.Cause.TheVariants as cause
 use Rattle.twkb_convert.proofs.Prelude.{◌≡◌, ◌≢◌, ◌+◌, ◌<◌, ℕ, false, List, [], ◌++◌, Option, Some, None, Err, IfSome}
 use Rattle.twkb_convert.proofs.Prelude.{length, ap, arith, refl, inl, inr, length-append, Consumes, OutFault, Allowance}
-use Rattle.twkb_convert.proofs.Prelude.{BlobReason, StreamFault, reason_of, Located, LocatedStream, geometries_of, listing_text}
+use Rattle.twkb_convert.proofs.Prelude.{BlobReason, StreamFault, reason_of, Located, LocatedStream, geometries_of}
+use Rattle.twkb_convert.proofs.Prelude.{listing_text}
 use Rattle.twkb_convert.proofs.Prelude.{Layout, IsDeviceCause, Cause, ◌∙◌, ◌⊎◌, Bool, true, Result, Ok, sym, subst}
 use Rattle.twkb_convert.proofs.Prelude.{append-nil, count_failure, Refused, Sent, Took, is_spent, output_tap, sent_join}
 use Rattle.twkb_convert.proofs.Prelude.{Output, ConvertFault, Report, IfErr, IfOk}
@@ -58,44 +59,48 @@ located-append l offset xs ys (b ∷ bs) cs s t =
 module _ (layout : Layout) (l : Allowance) (old mid told : Option (List ℕ)) (middle : ℕ)
     (bytes : List ℕ)
     (bs : List Located) (blobs : LocatedStream l 0 bytes bs) (used : Used old 0 bytes mid middle)
-    where
-  long : (known left : Option (List ℕ)) → Consumes known left bytes
-      → IfSome left (λ rest. MAX_BYTES < middle + length rest) → IfSome known (λ all. MAX_BYTES < length all)
-  long None left c far = tt
-  long (Some all) None c far = absurd c
-  long (Some all) (Some rest) c far = omega (arith, far, used.counted, ap length c, length-append bytes rest)
+  where
+    long : (known left : Option (List ℕ)) → Consumes known left bytes
+        → IfSome left (λ rest. MAX_BYTES < middle + length rest) → IfSome known (λ all. MAX_BYTES < length all)
+    long None left c far = tt
+    long (Some all) None c far = absurd c
+    long (Some all) (Some rest) c far = omega (arith, far, used.counted, ap length c, length-append bytes rest)
 
-  refused : (known left : Option (List ℕ)) (offset : ℕ) (why : BlobReason)
-      → Consumes known left bytes → IfSome left (λ rest. RefusesBlob l rest middle offset why)
-      → IfSome known (λ all. StreamFault l all (geometries_of bs) offset (reason_of why))
-  refused None left offset why c refuses = tt
-  refused (Some all) None offset why c refuses = absurd c
-  refused (Some all) (Some rest) offset why c refuses = record {
-    front = bytes;
-    rest = rest;
-    within = refuses.within;
-    whole = c;
-    blobs = located-stream l 0 bytes bs blobs;
-    first = refuses.first;
-    place = omega (arith, refuses.place, used.counted);
-  }
+    refused : (known left : Option (List ℕ)) (offset : ℕ) (why : BlobReason)
+        → Consumes known left bytes → IfSome left (λ rest. RefusesBlob l rest middle offset why)
+        → IfSome known (λ all. StreamFault l all (geometries_of bs) offset (reason_of why))
+    refused None left offset why c refuses = tt
+    refused (Some all) None offset why c refuses = absurd c
+    refused (Some all) (Some rest) offset why c refuses = record {
+      front = bytes;
+      rest = rest;
+      within = refuses.within;
+      whole = c;
+      blobs = located-stream l 0 bytes bs blobs;
+      first = refuses.first;
+      place = omega (arith, refuses.place, used.counted);
+    }
 
-  pub explained : (why : Cause) → Misses l mid middle told why
-      → ExplainsListingCause geometries_of (listing_text layout) l old told bytes why bs [] []
-  explained cause.Memory misses = (refl, refl)
-  explained cause.ReadDevice misses = (
-    refl,
-    refl,
-    record {
-      cut = misses.cut;
-      consumed = Consumes-trans old mid told bytes misses.cut used.consumed misses.consumed;
-      cut_off = misses.cut_off;
-    },
-  )
-  explained cause.TooLong misses = inl (long old mid used.consumed misses)
-  explained (cause.Blob offset why) misses = (refl, refl, refused old mid offset why used.consumed
-      misses)
-  explained _ misses = absurd misses
+    pub explained : (why : Cause) → Misses l mid middle told why
+        → ExplainsListingCause geometries_of (listing_text layout) l old told bytes why bs [] []
+    explained cause.Memory misses = (refl, refl)
+    explained cause.ReadDevice misses = (
+      refl,
+      refl,
+      record {
+        cut = misses.cut;
+        consumed = Consumes-trans old mid told bytes misses.cut used.consumed misses.consumed;
+        cut_off = misses.cut_off;
+      },
+    )
+    explained cause.TooLong misses = inl (long old mid used.consumed misses)
+    explained (cause.Blob offset why) misses = (
+      refl,
+      refl,
+      refused old mid offset why used.consumed
+          misses,
+    )
+    explained _ misses = absurd misses
 
 -- no device but the reader's is a cause if no text was made
 pub told_missed : (l : Allowance) (old told : Option (List ℕ)) (before : ℕ) (why : Cause)

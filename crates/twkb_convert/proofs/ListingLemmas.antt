@@ -348,129 +348,129 @@ module _ {R W : Type 0} {read : Ghosts R} {layout : Layout} {contents : W → Op
 
   module _ {mid : Reader R read} {out : Output W} {done : ℕ}
       (sent : SentSoFar layout contents from old mid out done)
-      where
-    -- one more blob was read
-    one_read : {to : Reader R read} {text : List ℕ} (one : GivesText layout mid to text)
-        → LocatedStream (limits_of from) 0 (sent.bytes ++ one.gives.front)
-        (sent.found ++ one.found ∷ [])
-    one_read one = one_more (limits_of from) (limits_of mid) 0 (given mid) sent.bytes
-        one.gives.front
-        sent.found one.found sent.blobs sent.follows.limits sent.used.counted one.gives.tells
+    where
+      -- one more blob was read
+      one_read : {to : Reader R read} {text : List ℕ} (one : GivesText layout mid to text)
+          → LocatedStream (limits_of from) 0 (sent.bytes ++ one.gives.front)
+          (sent.found ++ one.found ∷ [])
+      one_read one = one_more (limits_of from) (limits_of mid) 0 (given mid) sent.bytes
+          one.gives.front
+          sent.found one.found sent.blobs sent.follows.limits sent.used.counted one.gives.tells
 
-    -- the text of one more blob was sent
-    pub sent_more : {to : Reader R read} {new : Output W} {text : List ℕ}
-        → GivesText layout mid to text → Took contents out text new
-        → SentSoFar layout contents from old to new (done + 1)
-    sent_more {new = new} one took = record {
-      found = sent.found ++ one.found ∷ [];
-      bytes = sent.bytes ++ one.gives.front;
-      blobs = one_read one;
-      used = used_join sent.used one.gives.used;
-      took = subst (λ text. Took contents old text new) (text_more layout sent.found one.found)
-          (took_join contents old out new _ _ sent.took (rw one.own at took));
-      count = omega (arith, sent.count, length-append sent.found (one.found ∷ []));
-      follows = follows_on sent.follows one.follows;
-      between = one.between;
-      unspent = took.spent ∙ sent.unspent;
-      few = omega (arith, sent.few, given_more one.gives);
-    }
+      -- the text of one more blob was sent
+      pub sent_more : {to : Reader R read} {new : Output W} {text : List ℕ}
+          → GivesText layout mid to text → Took contents out text new
+          → SentSoFar layout contents from old to new (done + 1)
+      sent_more {new = new} one took = record {
+        found = sent.found ++ one.found ∷ [];
+        bytes = sent.bytes ++ one.gives.front;
+        blobs = one_read one;
+        used = used_join sent.used one.gives.used;
+        took = subst (λ text. Took contents old text new) (text_more layout sent.found one.found)
+            (took_join contents old out new _ _ sent.took (rw one.own at took));
+        count = omega (arith, sent.count, length-append sent.found (one.found ∷ []));
+        follows = follows_on sent.follows one.follows;
+        between = one.between;
+        unspent = took.spent ∙ sent.unspent;
+        few = omega (arith, sent.few, given_more one.gives);
+      }
 
-    -- a prefix of the text of one more blob was sent
-    pub lists_cut : {to : Reader R read} {new : Output W} {text : List ℕ} {fault : OutFault}
-        → sent_of old ≡ 0 → GivesText layout mid to text → Cut contents out text fault new
-        → Lists layout contents from old to new done (Err (cause_of_output fault))
-    lists_cut {to = to} {new = new} {fault = fault} none one refused_text =
-        let cut : Cut contents out (layout.text_of one.found) fault new = rw one.own at
-        refused_text in
-        let joined = text_more layout sent.found one.found in
-        record {
-          text = listing_text layout sent.found ++ cut.front;
-          part = record {
-            whole = sent.found;
-            later = one.found ∷ [];
-            bytes = sent.bytes ++ one.gives.front;
-            left = cut.rest;
-            blobs = one_read one;
-            begins = consumes_begins (rest_of from) (rest_of to) (sent.bytes ++ one.gives.front)
-                (used_join sent.used one.gives.used).consumed;
-            cut = sym joined ∙ ap (λ t. listing_text layout sent.found ++ t) cut.whole
-                ∙ sym (append_assoc (listing_text layout sent.found) cut.front cut.rest);
-            one = inr (one.found, refl, cut.left sent.unspent);
-            holds = inr (cut.front, refl);
-          };
-          leaves = leaves_refused (refused_join contents old out new _ cut.front fault sent.took
-              cut.refused);
-          count = sent.count;
-          read_failed = false;
-          follows = follows_on sent.follows one.follows;
-          ends = record {
-            explains = put_explained layout (limits_of from) (rest_of from) (told_of to)
-                (sent.bytes ++ one.gives.front) fault sent.found (one.found ∷ []) cut.rest
-                (λ e. (let far = cut.too_long e in
-                omega (
-                  arith,
-                  far,
-                  none,
-                  sent.took.sends.sent,
-                  ap length joined,
-                  length-append (listing_text layout sent.found) (layout.text_of one.found),
-                )))
-                (cut.unspent sent.unspent);
-            tell = told_put fault;
-          };
-        }
+      -- a prefix of the text of one more blob was sent
+      pub lists_cut : {to : Reader R read} {new : Output W} {text : List ℕ} {fault : OutFault}
+          → sent_of old ≡ 0 → GivesText layout mid to text → Cut contents out text fault new
+          → Lists layout contents from old to new done (Err (cause_of_output fault))
+      lists_cut {to = to} {new = new} {fault = fault} none one refused_text =
+          let cut : Cut contents out (layout.text_of one.found) fault new = rw one.own at
+          refused_text in
+          let joined = text_more layout sent.found one.found in
+          record {
+            text = listing_text layout sent.found ++ cut.front;
+            part = record {
+              whole = sent.found;
+              later = one.found ∷ [];
+              bytes = sent.bytes ++ one.gives.front;
+              left = cut.rest;
+              blobs = one_read one;
+              begins = consumes_begins (rest_of from) (rest_of to) (sent.bytes ++ one.gives.front)
+                  (used_join sent.used one.gives.used).consumed;
+              cut = sym joined ∙ ap (λ t. listing_text layout sent.found ++ t) cut.whole
+                  ∙ sym (append_assoc (listing_text layout sent.found) cut.front cut.rest);
+              one = inr (one.found, refl, cut.left sent.unspent);
+              holds = inr (cut.front, refl);
+            };
+            leaves = leaves_refused (refused_join contents old out new _ cut.front fault sent.took
+                cut.refused);
+            count = sent.count;
+            read_failed = false;
+            follows = follows_on sent.follows one.follows;
+            ends = record {
+              explains = put_explained layout (limits_of from) (rest_of from) (told_of to)
+                  (sent.bytes ++ one.gives.front) fault sent.found (one.found ∷ []) cut.rest
+                  (λ e. (let far = cut.too_long e in
+                  omega (
+                    arith,
+                    far,
+                    none,
+                    sent.took.sends.sent,
+                    ap length joined,
+                    length-append (listing_text layout sent.found) (layout.text_of one.found),
+                  )))
+                  (cut.unspent sent.unspent);
+              tell = told_put fault;
+            };
+          }
 
-    -- no text was sent after those of whole blobs
-    lists_whole : {to : Reader R read} {failed : Bool} (answer : Result (Unit {0}) Cause)
-        → Follows mid to failed → is_write answer ≡ false
-        → Ends layout from to sent.bytes sent.found [] [] failed answer
-        → Lists layout contents from old to out done answer
-    lists_whole {failed = failed} answer follows quiet ends =
-        let text = listing_text layout sent.found in
-        record {
-          text = text;
-          part = record {
-            whole = sent.found;
-            later = [];
-            bytes = sent.bytes;
-            left = [];
-            blobs = rw append-nil sent.blobs;
-            begins = consumes_begins (rest_of from) (rest_of mid) sent.bytes sent.used.consumed;
-            cut = ap (listing_text layout) (append-nil sent.found) ∙ sym (append-nil text);
-            one = inl refl;
-            holds = inr ([], sym (append-nil text));
-          };
-          leaves = leaves_took answer sent.took (sym sent.took.spent ∙ sent.unspent) quiet;
-          count = sent.count;
-          read_failed = failed;
-          follows = follows_on sent.follows follows;
-          ends = ends;
-        }
+      -- no text was sent after those of whole blobs
+      lists_whole : {to : Reader R read} {failed : Bool} (answer : Result (Unit {0}) Cause)
+          → Follows mid to failed → is_write answer ≡ false
+          → Ends layout from to sent.bytes sent.found [] [] failed answer
+          → Lists layout contents from old to out done answer
+      lists_whole {failed = failed} answer follows quiet ends =
+          let text = listing_text layout sent.found in
+          record {
+            text = text;
+            part = record {
+              whole = sent.found;
+              later = [];
+              bytes = sent.bytes;
+              left = [];
+              blobs = rw append-nil sent.blobs;
+              begins = consumes_begins (rest_of from) (rest_of mid) sent.bytes sent.used.consumed;
+              cut = ap (listing_text layout) (append-nil sent.found) ∙ sym (append-nil text);
+              one = inl refl;
+              holds = inr ([], sym (append-nil text));
+            };
+            leaves = leaves_took answer sent.took (sym sent.took.spent ∙ sent.unspent) quiet;
+            count = sent.count;
+            read_failed = failed;
+            follows = follows_on sent.follows follows;
+            ends = ends;
+          }
 
-    -- the end was found
-    pub lists_all : {to : Reader R read} → EndsBlobs mid to
-        → Lists layout contents from old to out done (Ok tt)
-    lists_all {to = to} ends = lists_whole (Ok tt) ends.follows refl (record {
-      no_later = refl;
-      none_left = refl;
-      all = consumes_all (rest_of from) (rest_of mid) sent.bytes sent.used.consumed ends.empty;
-      ended = still_known (rest_of from) (rest_of mid) sent.bytes (IsAtEnd (told_of to)) sent.used.consumed ends.ended;
-      no_read = refl;
-    })
+      -- the end was found
+      pub lists_all : {to : Reader R read} → EndsBlobs mid to
+          → Lists layout contents from old to out done (Ok tt)
+      lists_all {to = to} ends = lists_whole (Ok tt) ends.follows refl (record {
+        no_later = refl;
+        none_left = refl;
+        all = consumes_all (rest_of from) (rest_of mid) sent.bytes sent.used.consumed ends.empty;
+        ended = still_known (rest_of from) (rest_of mid) sent.bytes (IsAtEnd (told_of to)) sent.used.consumed ends.ended;
+        no_read = refl;
+      })
 
-    -- the text of the next blob was not made
-    pub lists_up_to : {to : Reader R read} {why : Cause} → MissesText mid to why
-        → Lists layout contents from old to out done (Err why)
-    lists_up_to {to = to} {why = why} missed =
-        let misses : Misses (limits_of from) (rest_of mid) (given mid) (told_of to) why =
-        subst (λ l. Misses l (rest_of mid) (given mid) (told_of to) why) sent.follows.limits missed.misses in
-        let told = told_missed (limits_of from) (rest_of mid) (told_of to) (given mid) why misses in
-        lists_whole (Err why) missed.follows told.0
-        (record {
-          explains = explained layout (limits_of from) (rest_of from) (rest_of mid) (told_of to)
-              (given mid) sent.bytes sent.found sent.blobs sent.used why misses;
-          tell = told.1;
-        })
+      -- the text of the next blob was not made
+      pub lists_up_to : {to : Reader R read} {why : Cause} → MissesText mid to why
+          → Lists layout contents from old to out done (Err why)
+      lists_up_to {to = to} {why = why} missed =
+          let misses : Misses (limits_of from) (rest_of mid) (given mid) (told_of to) why =
+          subst (λ l. Misses l (rest_of mid) (given mid) (told_of to) why) sent.follows.limits missed.misses in
+          let told = told_missed (limits_of from) (rest_of mid) (told_of to) (given mid) why misses in
+          lists_whole (Err why) missed.follows told.0
+          (record {
+            explains = explained layout (limits_of from) (rest_of from) (rest_of mid) (told_of to)
+                (given mid) sent.bytes sent.found sent.blobs sent.used why misses;
+            tell = told.1;
+          })
 
 -- ==== The flush after the text of a stream, and what the caller of the conversion learns.
 

@@ -19,7 +19,8 @@ use Rattle.twkb_table.proofs.FieldLemmas.{head_same, tail_same}
 use Rattle.twkb_table.proofs.TableSteps.{never_none}
 use Rattle.twkb_convert.proofs.Prelude.{◌≡◌, ◌∙◌, ℕ, List, [], ◌∷◌, None, ap, refl, sym, subst, inl, inr, Tree}
 use Rattle.twkb_convert.proofs.Prelude.{Allowance, IsAllowance, Stream, canonical_stream, Style, Record, table, Named}
-use Rattle.twkb_convert.proofs.Prelude.{AreComplete, NamesNone, RowReason, map-append, AreRecordsOf, IsTable, PackTextTo, PackTo, UnpackTo}
+use Rattle.twkb_convert.proofs.Prelude.{AreComplete, NamesNone, RowReason, map-append, AreRecordsOf, IsTable}
+use Rattle.twkb_convert.proofs.Prelude.{PackTextTo, PackTo, UnpackTo}
 use Rattle.twkb_convert.proofs.Prelude.{table_text, ◌⊎◌, map, ◌++◌, Some, append_assoc, append-nil, flat_map-append}
 use Rattle.twkb_convert.proofs.Prelude.{BeginsWith, Row, rows, rows_of, FirstFault, Reason, canonical_blob, header}
 use Rattle.twkb_convert.proofs.Prelude.{record_of, HasNoHeader, all_but_last, BeginWith, FrontOfBlobs, rows_text}
@@ -154,8 +155,11 @@ all_but_last_first gs = (gs, refl)
 one_before : (g : Tree) (gs rest hs : List Tree) → hs ≡ g ∷ rest → (rest ≡ [] → ⊥)
     → Begins gs (all_but_last rest) → Begins (g ∷ gs) (all_but_last hs)
 one_before g gs [] hs whole some first = absurd (some refl)
-one_before g gs (r ∷ rest) hs whole some first = (first.0, ap all_but_last whole
-    ∙ ap (λ l. g ∷ l) first.1)
+one_before g gs (r ∷ rest) hs whole some first = (
+  first.0,
+  ap all_but_last whole
+      ∙ ap (λ l. g ∷ l) first.1,
+)
 
 -- if rows of geometries begin with the rows of others, all but the last of those come first,
 -- without the last too
@@ -207,9 +211,11 @@ ready_named l text records [] trees gs hs allowed all begins named ready other =
 ready_named l text records (s ∷ seen) trees gs hs allowed all begins named (inl e) other =
     let (tail, whole) = first_records text records (s ∷ seen) all begins in
     let first = named_first l (s ∷ seen) tail trees hs allowed named (subst (λ r. Named l r hs) whole other) in
-    let (last, all) = all_but_last_first hs in
-    (first.0 ++ last, all ∙ ap (λ ks. ks ++ last) (first.1 ∙ ap (λ ks. ks ++ first.0) (sym e))
-    ∙ append_assoc gs first.0 last)
+    let (last, all) = all_but_last_first hs in (
+      first.0 ++ last,
+      all ∙ ap (λ ks. ks ++ last) (first.1 ∙ ap (λ ks. ks ++ first.0) (sym e))
+          ∙ append_assoc gs first.0 last,
+    )
 ready_named l text records (s ∷ seen) trees gs hs allowed all begins named (inr (ended, e)) other =
     let same : s ∷ seen ≡ records = one_records text (s ∷ seen) records ended all in (
       [],
@@ -297,10 +303,12 @@ blobs_first l a b x y gs hs within reason s t f e =
     let (bs, located, are) = some_located_stream l 0 a gs s in
     let (cs, others, same) = some_located_stream l 0 b hs t in
     let first = located_first l 0 a b x y bs cs located others (fault_no_blob l y within reason f)
-    e in
-    (geometries_of first.0, sym same ∙ ap geometries_of first.1
-    ∙ map-append (λ (c : Located). c.geometry) bs first.0 ∙ ap (λ ks. ks ++ geometries_of first.0)
-    are)
+    e in (
+      geometries_of first.0,
+      sym same ∙ ap geometries_of first.1
+          ∙ map-append (λ (c : Located). c.geometry) bs first.0 ∙ ap (λ ks. ks ++ geometries_of first.0)
+          are,
+    )
 
 blobs_unpacked : (l : Allowance) (all bytes rest : List ℕ) (gs : List Tree) (text : List ℕ)
     → all ≡ bytes ++ rest → Stream l bytes gs → UnpackTo l all text → (hs : List Tree)

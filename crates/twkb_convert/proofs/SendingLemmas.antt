@@ -451,81 +451,81 @@ module _ {R W : Type 0} {style : Style} {l : Allowance} {contents : W → Option
     (sends : SendsTable style l contents (remaining (device_of reader)) (bytes_given read) old mid
     sent drained)
     (borrowed : (output_tap old).now ≡ writer) (closes : (output_tap new).now ≡ written) (none : sent_of old ≡ 0)
-    where
-  flushed : (answer : Result (Unit {0}) Cause) × Flushes contents mid drained new answer
-      × (finishes.answer ≡ after_reads failed answer)
-  flushed = flushes_before failed drained finishes.flushes
+  where
+    flushed : (answer : Result (Unit {0}) Cause) × Flushes contents mid drained new answer
+        × (finishes.answer ≡ after_reads failed answer)
+    flushed = flushes_before failed drained finishes.flushes
 
-  s : SendsTable style l contents (remaining (device_of reader)) (bytes_given read) old new sent flushed.0
-  s = sends_last sends flushed.1
+    s : SendsTable style l contents (remaining (device_of reader)) (bytes_given read) old new sent flushed.0
+    s = sends_last sends flushed.1
 
-  told : Tells style l (remaining (device_of reader)) (bytes_given read) sent.work s.part.whole s.part.later
-      s.part.front failed flushed.0 finishes.answer
-  told = subst (Tells style l (remaining (device_of reader)) (bytes_given read) sent.work s.part.whole s.part.later
-      s.part.front failed flushed.0) (sym flushed.2) (tells style l (remaining (device_of reader)) (bytes_given read)
-      sent.work s.part.whole s.part.later s.part.front failed flushed.0 s.ends)
+    told : Tells style l (remaining (device_of reader)) (bytes_given read) sent.work s.part.whole s.part.later
+        s.part.front failed flushed.0 finishes.answer
+    told = subst (Tells style l (remaining (device_of reader)) (bytes_given read) sent.work s.part.whole s.part.later
+        s.part.front failed flushed.0) (sym flushed.2) (tells style l (remaining (device_of reader)) (bytes_given read)
+        sent.work s.part.whole s.part.later s.part.front failed flushed.0 s.ends)
 
-  writes : failures_of written ≡ count_failure (is_write flushed.0) (failures_of writer)
-  writes = ap failures_of (sym closes) ∙ s.leaves.failures
-      ∙ ap (λ (t : Tap W). count_failure (is_write flushed.0) (failures_of t)) borrowed
+    writes : failures_of written ≡ count_failure (is_write flushed.0) (failures_of writer)
+    writes = ap failures_of (sym closes) ∙ s.leaves.failures
+        ∙ ap (λ (t : Tap W). count_failure (is_write flushed.0) (failures_of t)) borrowed
 
-  appended : Appends (contents (device_of writer)) (contents (device_of written)) s.bytes
-  appended = subst (λ t. Appends (contents (device_of t)) (contents (device_of written)) s.bytes) borrowed
-      (subst (λ t. Appends (contents (device_of (output_tap old).now)) (contents (device_of t)) s.bytes) closes
-      s.leaves.sends.appends)
+    appended : Appends (contents (device_of writer)) (contents (device_of written)) s.bytes
+    appended = subst (λ t. Appends (contents (device_of t)) (contents (device_of written)) s.bytes) borrowed
+        (subst (λ t. Appends (contents (device_of (output_tap old).now)) (contents (device_of t)) s.bytes) closes
+        s.leaves.sends.appends)
 
-  -- the whole table was sent, and no read failed
-  pub packed_with : (done : Report) → report ≡ Ok done → sent.work.point_reads < 2 ^ 64
-      → sent.work.node_reads < 2 ^ 64
-      → PackedWith style l remaining contents reader writer done sent.work read written
-  packed_with done is few_points few_nodes =
-      let (ok, same) = reports_ok sent.geometries (sent_of new) done finishes.answer (sym is ∙ finishes.reports) in
-      let all = ok_before failed flushed.0 tt (sym ok ∙ flushed.2) in
-      let (quiet, ends) = subst (Tells style l (remaining (device_of reader)) (bytes_given read) sent.work
-      s.part.whole s.part.later s.part.front failed flushed.0) ok told in
-      let stream : s.bytes ≡ canonical_stream style ends.table.geometries = s.part.bytes
-      ∙ ap (λ b. canonical_stream style s.part.whole ++ b) ends.no_front
-      ∙ append-nil (canonical_stream style s.part.whole) ∙ ap (canonical_stream style) (sym ends.same) in
-      record {
-        packed = record {
-          table = ends.table;
-          appends = subst (λ b. Appends (contents (device_of writer)) (contents (device_of written)) b) stream appended;
-          count = ap (λ (r : Report). r.geometries) same ∙ s.count ∙ ap length (sym ends.same);
-          bytes = (let more = s.leaves.sends.sent in let total = ap (λ (r : Report). r.bytes) same in
-              omega (arith, total, more, none, ap length stream));
-          end = kept_last tt (IsAtEnd (remaining (device_of read))) flushed.1 end all;
-          reads = subst (λ f. Changes f (failures_of reader) (failures_of read)) quiet changes;
-          writes = subst (λ a. failures_of written ≡ count_failure (is_write a) (failures_of writer)) all writes;
-        };
-        work_of = subst (λ gs. IsWorkOf gs sent.work) (sym ends.same) ends.work_of;
-        point_reads = omega (arith, few_points, ends.work_of.all_points, ends.work_of.point_reads);
-        node_reads = omega (arith, few_nodes, ends.work_of.all_nodes, ends.work_of.node_reads);
-      }
+    -- the whole table was sent, and no read failed
+    pub packed_with : (done : Report) → report ≡ Ok done → sent.work.point_reads < 2 ^ 64
+        → sent.work.node_reads < 2 ^ 64
+        → PackedWith style l remaining contents reader writer done sent.work read written
+    packed_with done is few_points few_nodes =
+        let (ok, same) = reports_ok sent.geometries (sent_of new) done finishes.answer (sym is ∙ finishes.reports) in
+        let all = ok_before failed flushed.0 tt (sym ok ∙ flushed.2) in
+        let (quiet, ends) = subst (Tells style l (remaining (device_of reader)) (bytes_given read) sent.work
+        s.part.whole s.part.later s.part.front failed flushed.0) ok told in
+        let stream : s.bytes ≡ canonical_stream style ends.table.geometries = s.part.bytes
+        ∙ ap (λ b. canonical_stream style s.part.whole ++ b) ends.no_front
+        ∙ append-nil (canonical_stream style s.part.whole) ∙ ap (canonical_stream style) (sym ends.same) in
+        record {
+          packed = record {
+            table = ends.table;
+            appends = subst (λ b. Appends (contents (device_of writer)) (contents (device_of written)) b) stream appended;
+            count = ap (λ (r : Report). r.geometries) same ∙ s.count ∙ ap length (sym ends.same);
+            bytes = (let more = s.leaves.sends.sent in let total = ap (λ (r : Report). r.bytes) same in
+                omega (arith, total, more, none, ap length stream));
+            end = kept_last tt (IsAtEnd (remaining (device_of read))) flushed.1 end all;
+            reads = subst (λ f. Changes f (failures_of reader) (failures_of read)) quiet changes;
+            writes = subst (λ a. failures_of written ≡ count_failure (is_write a) (failures_of writer)) all writes;
+          };
+          work_of = subst (λ gs. IsWorkOf gs sent.work) (sym ends.same) ends.work_of;
+          point_reads = omega (arith, few_points, ends.work_of.all_points, ends.work_of.point_reads);
+          node_reads = omega (arith, few_nodes, ends.work_of.all_nodes, ends.work_of.node_reads);
+        }
 
-  -- not the whole table was sent, the flush failed, or a read failed
-  pub stopped_packing : (fault : ConvertFault) → report ≡ Err fault
-      → StoppedPacking style l remaining contents reader writer fault read written
-  stopped_packing fault is =
-      let (stops, same) = reports_err sent.geometries (sent_of new) fault finishes.answer (sym is ∙ finishes.reports) in
-      let (explains, device) = subst (Tells style l (remaining (device_of reader)) (bytes_given read) sent.work
-      s.part.whole s.part.later s.part.front failed flushed.0) stops told in
-      record {
-        bytes = s.bytes;
-        part = s.part;
-        one = s.one;
-        appends = appended;
-        sent = (let more = s.leaves.sends.sent in let total = ap (λ (f : ConvertFault). f.sent) same in
-            omega (arith, total, more, none));
-        done = ap (λ (f : ConvertFault). f.done) same ∙ s.count;
-        explains = explains;
-        devices = record {
-          read_failed = failed;
-          write_failed = is_write flushed.0;
-          reads = changes;
-          writes = writes;
-          tell = device;
-        };
-      }
+    -- not the whole table was sent, the flush failed, or a read failed
+    pub stopped_packing : (fault : ConvertFault) → report ≡ Err fault
+        → StoppedPacking style l remaining contents reader writer fault read written
+    stopped_packing fault is =
+        let (stops, same) = reports_err sent.geometries (sent_of new) fault finishes.answer (sym is ∙ finishes.reports) in
+        let (explains, device) = subst (Tells style l (remaining (device_of reader)) (bytes_given read) sent.work
+        s.part.whole s.part.later s.part.front failed flushed.0) stops told in
+        record {
+          bytes = s.bytes;
+          part = s.part;
+          one = s.one;
+          appends = appended;
+          sent = (let more = s.leaves.sends.sent in let total = ap (λ (f : ConvertFault). f.sent) same in
+              omega (arith, total, more, none));
+          done = ap (λ (f : ConvertFault). f.done) same ∙ s.count;
+          explains = explains;
+          devices = record {
+            read_failed = failed;
+            write_failed = is_write flushed.0;
+            reads = changes;
+            writes = writes;
+            tell = device;
+          };
+        }
 
 -- ==== A geometry that is a point, sent without a form.
 

@@ -2,7 +2,8 @@
 use Rattle.twkb_convert.proofs.Prelude.{◌⊎◌, ◌≡◌, ◌∙◌, ◌+◌, ℕ, List, [], ◌∷◌, ◌++◌, length, Some, ap, arith, refl}
 use Rattle.twkb_convert.proofs.Prelude.{sym, subst, inl, inr, length-append, append_assoc, append-nil}
 use Rattle.twkb_convert.proofs.Prelude.{flat_map-append, BeginsWith, Tree, Allowance, IsAllowance, AreBytes, Blob}
-use Rattle.twkb_convert.proofs.Prelude.{Stream, FirstFault, Reason, StreamFault, spans_of_blob, Span, Located, span_lines}
+use Rattle.twkb_convert.proofs.Prelude.{Stream, FirstFault, Reason, StreamFault, spans_of_blob, Span, Located}
+use Rattle.twkb_convert.proofs.Prelude.{span_lines}
 use Rattle.twkb_convert.proofs.Prelude.{LocatedStream, ShowTo, TellsSpans, geometries_of, lines_text}
 use Rattle.twkb_grammar.proofs.Parts.{one_blob_lem, peel}
 use Rattle.twkb_grammar.proofs.OneFault.{no_fault}

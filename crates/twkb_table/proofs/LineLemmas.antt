@@ -128,12 +128,12 @@ pub rows_put_more : {rows : List Row} {i : ℕ} {r : Row} {old text after : List
     → after ≡ text ++ row_lines (r ∷ []) → RowsPut rows (i + 1) old after before next
 rows_put_more {rows = rows} {i = i} {r = r} {old = old} {before = before} so_far here counted
     put = record {
-  lines = rw (take_next rows i r here, row_lines-append) (put
-      ∙ rw so_far.lines (append_assoc old (row_lines (take i rows)) (row_lines (r ∷ []))));
-  counted = rw (points_next rows i r here) (counted
-      ∙ ap (λ (w : Work). counted_on w 1 (length r.points)) so_far.counted
-      ∙ counts_join before i 1 (length (row_points (take i rows))) (length r.points));
-}
+      lines = rw (take_next rows i r here, row_lines-append) (put
+          ∙ rw so_far.lines (append_assoc old (row_lines (take i rows)) (row_lines (r ∷ []))));
+      counted = rw (points_next rows i r here) (counted
+          ∙ ap (λ (w : Work). counted_on w 1 (length r.points)) so_far.counted
+          ∙ counts_join before i 1 (length (row_points (take i rows))) (length r.points));
+    }
 
 -- the lines of all rows
 pub all_lines : {rows : List Row} {i : ℕ} {old text : List ℕ} {before work : Work}

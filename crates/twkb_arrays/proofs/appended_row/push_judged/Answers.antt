@@ -54,8 +54,11 @@ returns-in-Some-refused_row-clause-refused c =
     rw c.refused-in-Some-refused_row.ensures (inr (
       c.in-Some.kind,
       c.in-Some.ensures,
-      inr (right, inr
-      (omega (arith, c.if-row-ahead.false), (found.0, first, ap row_number_of found.2))),
+      inr (
+        right,
+        inr
+            (omega (arith, c.if-row-ahead.false), (found.0, first, ap row_number_of found.2)),
+      ),
     ))
 
 pub push_from-requires : goal.push_from-requires
@@ -109,6 +112,9 @@ returns-in-Err-clause-refused c =
     (λ number out. inr (
       c.in-Some.kind,
       c.in-Some.ensures,
-      inr (right, inr
-      (omega (arith, c.if-row-ahead.false), (CoordinateRange, refused out.0, out.1))),
+      inr (
+        right,
+        inr
+            (omega (arith, c.if-row-ahead.false), (CoordinateRange, refused out.0, out.1)),
+      ),
     )) c.in-Err.ensures.refused

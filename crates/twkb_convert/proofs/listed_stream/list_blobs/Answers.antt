@@ -48,5 +48,6 @@ loop-output-preserved g c =
 pub returns : goal.returns
 returns g c =
     let none : c.in_ok-read_next.field-0 ≡ false = search rules in
-    record { lists = lists_all c.loop-output.invariant (rw none at c.in_ok-read_next.ensures.reads)
-        }
+    record {
+      lists = lists_all c.loop-output.invariant (rw none at c.in_ok-read_next.ensures.reads);
+    }
