@@ -1,9 +1,8 @@
 -- The items of a geometry keep the limits on depth and range exactly if the geometry does.
-use Rattle.std.proofs.Common.{◌≡◌, ℕ, suc, ◌+◌, ◌≤◌, List, [], ◌∷◌, ◌++◌, refl, sym, ◌∙◌, subst, append_assoc}
+use Rattle.std.proofs.Common.{◌≡◌, ℕ, suc, ◌+◌, ◌≤◌, List, [], ◌∷◌, ◌++◌, refl, sym, ◌∙◌, subst}
 use Rattle.std.proofs.Common.{arith, Bool, true, false, map, Some, None, inl, inr}
 use Rattle.std.specs.Prelude.{⊤, ◌↔◌, ℤ, flat_map}
 use Rattle.std.proofs.lemmas.Bool.{cases_lt}
-use Rattle.std.proofs.lemmas.List.{append-nil}
 use Rattle.std.specs.List.{AllByRecursion}
 use Rattle.twkb_points.specs.Point.{IsCoordinate, Point, IsInRange, origin}
 use Rattle.twkb_tree.specs.Tree.{Tree, Simple, point, line, polygon, multi_point, multi_line, multi_polygon, simple}

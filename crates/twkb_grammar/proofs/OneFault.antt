@@ -14,7 +14,7 @@ use Rattle.twkb_grammar.specs.Fault.{IsTooLong, FirstFault, SizeMismatch, IsPart
 use Rattle.twkb_grammar.specs.Machine.{Finished, Sums, nothing, added, Stack, started, role_at, stack_after}
 use Rattle.twkb_grammar.specs.Machine.{Runs}
 use Rattle.twkb_grammar.specs.Reading.{Reached, Gives}
-use Rattle.twkb_grammar.proofs.Parts.{one_item, peel, run_on, front_runs}
+use Rattle.twkb_grammar.proofs.Parts.{blob_runs, one_item, peel, run_on, front_runs}
 use Rattle.twkb_grammar.proofs.Trees.{tree_runs}
 use Rattle.twkb_grammar.proofs.Running.{ran_part, part_ran}
 use Rattle.twkb_grammar.proofs.Frames.{item_some}
@@ -192,7 +192,7 @@ no_fault limits bytes rest g offset reason b f = go
     (at ∙ f.split))
   where
     whole : Runs nothing started b.blob.items ([], Finished g)
-    whole = tree_runs g [] nothing b.blob.items b.blob.valid.tree b.blob.are_items
+    whole = blob_runs limits b.front g b.blob
 
     st : (st : Stack) × Runs nothing started f.before st
     st = fault_runs limits bytes offset reason f

@@ -262,12 +262,16 @@ one_reading (i ∷ is) (j ∷ js) e st g h x y r s eq =
     (peel i.bytes j.bytes (join is ++ x) (join js ++ y) (ap (λ k. k.bytes) same) eq2) in
     (next.0, ap (λ k. k ∷ is) same ∙ ap (λ l. j ∷ l) next.1)
 
+-- the machine runs through the items of a blob
+pub blob_runs : (limits : Allowance) (bytes : List ℕ) (g : Tree) (b : Blob limits bytes g)
+    → Runs nothing started b.items ([], Finished g)
+blob_runs limits bytes g b = tree_runs g [] nothing b.items b.valid.tree b.are_items
+
 -- two blobs at the start of the same bytes have the same items
 pub one_blob_items : (limits : Allowance) (a b x y : List ℕ) (g h : Tree) (ba : Blob limits a g)
     (bb : Blob limits b h) → a ++ x ≡ b ++ y → (g ≡ h) × (ba.items ≡ bb.items)
 one_blob_items limits a b x y g h ba bb e = one_reading ba.items bb.items nothing started g h x y
-    (tree_runs g [] nothing ba.items ba.valid.tree ba.are_items)
-    (tree_runs h [] nothing bb.items bb.valid.tree bb.are_items)
+    (blob_runs limits a g ba) (blob_runs limits b h bb)
     (ap (λ l. l ++ x) ba.spelled ∙ (e ∙ sym (ap (λ l. l ++ y) bb.spelled)))
 
 -- two blobs at the start of the same bytes are equal

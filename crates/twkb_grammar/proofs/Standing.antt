@@ -20,8 +20,8 @@ use Rattle.twkb_grammar.specs.Spans.{spans_of_blob}
 use Rattle.twkb_grammar.proofs.BodiesBack.{some_role, sums_after-append}
 use Rattle.twkb_grammar.proofs.Dead.{run_ends}
 use Rattle.twkb_grammar.proofs.Streams.{no_items, streams_same}
-use Rattle.twkb_grammar.proofs.Trees.{tree_runs, tree_total, total}
-use Rattle.twkb_grammar.proofs.Parts.{runs_same, run_on, peel, one_blob_lem}
+use Rattle.twkb_grammar.proofs.Trees.{tree_total, total}
+use Rattle.twkb_grammar.proofs.Parts.{blob_runs, runs_same, run_on, peel}
 use Rattle.twkb_grammar.proofs.OneFault.{Beyond, Compared, longer, shorter, same, two_fronts, none_beyond, left_cancel}
 use Rattle.twkb_grammar.proofs.OneFault.{join-beyond}
 use Rattle.twkb_grammar.proofs.Running.{reached_nothing, role_behind, reached_bytes, reached_cut, reached_end}
@@ -70,6 +70,12 @@ module _ (limits : Allowance) (bytes : List ℕ) (gs : List Tree) (e : Sums) (st
       (subst (λ r. Spells r b.next.number b.next.bytes) role t.1) s.spelled
       (subst (λ l. GoOn l) stands s.go_on) (subst (λ l. (l ≡ []) ⊎ IsNumber s.role) stands s.number)
 
+  -- the items are not those of a whole blob
+  pub unfinished : (is : List Item) (g : Tree) → Runs nothing started is ([], Finished g) → is ≡ s.reached.items
+      → None ≡ Some s.role
+  unfinished is g whole alike = ap (λ y. role_at e y) (runs_same is nothing started ([], Finished g) st whole
+      (subst (λ l. Runs nothing started l st) (sym alike) s.reached.ran.runs)) ∙ s.wants
+
   -- no blob is at the start of such bytes
   none_whole : (g : Tree) (front x : List ℕ) → Blob limits front g → front ++ x ≡ s.middle ++ held → ⊥
   none_whole g front x b at =
@@ -77,7 +83,7 @@ module _ (limits : Allowance) (bytes : List ℕ) (gs : List Tree) (e : Sums) (st
       s.reached.ran.runs (there ∙ ap (λ l. l ++ held) (sym s.reached.spelled)))
     where
       whole : Runs nothing started b.items ([], Finished g)
-      whole = tree_runs g [] nothing b.items b.valid.tree b.are_items
+      whole = blob_runs limits front g b
 
       there : join b.items ++ x ≡ s.middle ++ held
       there = ap (λ l. l ++ x) b.spelled ∙ at
@@ -86,9 +92,7 @@ module _ (limits : Allowance) (bytes : List ℕ) (gs : List Tree) (e : Sums) (st
       go (longer n) = none_longer b.items ([], Finished g) x whole there n
       go (shorter n) = none_beyond b.items s.reached.items g st whole s.reached.ran.runs n
       go (same i) =
-          let end : ([], Finished g) ≡ st = runs_same b.items nothing started ([], Finished g) st
-          whole (subst (λ l. Runs nothing started l st) (sym i) s.reached.ran.runs) in
-          let z : None ≡ Some s.role = ap (λ y. role_at e y) end ∙ s.wants in absurd cc
+          let z : None ≡ Some s.role = unfinished b.items g whole i in absurd cc
 
 -- two readers that have given the same geometries are in the same state
 same_place : (limits : Allowance) (bytes other : List ℕ) (gs hs : List Tree) (e f : Sums)
@@ -475,7 +479,7 @@ module _ (limits : Allowance) (bytes : List ℕ) (e : Sums) (st : Stack) (held :
       ([], Finished g) (held ++ byte ∷ []) [] s.reached.ran.runs whole (left byte ∙ sym right))
     where
       whole : Runs nothing started b.items ([], Finished g)
-      whole = tree_runs g [] nothing b.items b.valid.tree b.are_items
+      whole = blob_runs limits (bytes ++ byte ∷ []) g b
 
       right : join b.items ++ [] ≡ (s.middle ++ held) ++ byte ∷ []
       right = append-nil (join b.items) ∙ (b.spelled ∙ ap (λ l. l ++ byte ∷ []) (sym at_middle))
@@ -509,8 +513,5 @@ module _ (limits : Allowance) (bytes : List ℕ) (e : Sums) (st : Stack) (held :
           ≡ (note_ends_to 0 (start + length (bytes ++ byte ∷ [])) (length (flat g)) V).spans
       go (longer n) = absurd (none_beyond b.items s.reached.items g st whole s.reached.ran.runs n)
       go (shorter n) = grew (taken limits bytes [] e st held s b.items ([], Finished g) byte [] whole right n)
-      go (same z) =
-          let same_stack : ([], Finished g) ≡ st = runs_same b.items nothing started
-          ([], Finished g) st whole (subst (λ l. Runs nothing started l st) z
-          s.reached.ran.runs) in
-          let y : None ≡ Some s.role = ap (λ x. role_at e x) same_stack ∙ s.wants in absurd cc
+      go (same z) = let y : None ≡ Some s.role = unfinished limits bytes [] e st held s b.items g whole (sym z) in
+          absurd cc

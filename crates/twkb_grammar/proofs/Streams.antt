@@ -17,7 +17,7 @@ use Rattle.twkb_grammar.specs.Machine.{Finished, AtHeader, nothing, started, Sta
 use Rattle.twkb_grammar.specs.PlainReader.{Answer, Made, RefusedAt, GoesOn, decode}
 use Rattle.twkb_grammar.proofs.BodiesBack.{some_role}
 use Rattle.twkb_grammar.proofs.Trees.{tree_runs}
-use Rattle.twkb_grammar.proofs.Parts.{front_runs, peel, one_blob_lem}
+use Rattle.twkb_grammar.proofs.Parts.{blob_runs, front_runs, peel, one_blob_lem}
 use Rattle.twkb_grammar.proofs.OneFault.{left_cancel, one_first_fault, no_fault}
 use Rattle.twkb_grammar.proofs.WrittenBlobs.{written_blob}
 use Rattle.twkb_grammar.proofs.NotedSpans.{none_front}
@@ -38,8 +38,7 @@ no_items (i ∷ is) st r e = absurd (first_item i is st r e)
 
 -- an empty list of bytes is not a blob
 pub blob_some : (limits : Allowance) (g : Tree) (bytes : List ℕ) → Blob limits bytes g → bytes ≡ [] → ⊥
-blob_some limits g bytes b none = go b.items (tree_runs g [] nothing b.items b.valid.tree
-    b.are_items) (b.spelled ∙ none)
+blob_some limits g bytes b none = go b.items (blob_runs limits bytes g b) (b.spelled ∙ none)
   where
     go : (is : List Item) → Runs nothing started is ([], Finished g) → join is ≡ [] → ⊥
     go [] r e = let z : AtHeader ≡ Finished g = ap (λ (s : Stack). s.1) r in cc
@@ -177,10 +176,12 @@ streams_same limits a b x y (g ∷ gs) (h ∷ hs) s t m n e =
 pub same_front : (limits : Allowance) (a b x y : List ℕ) (gs hs : List Tree) (o p : ℕ) (r q : Reason)
     → Stream limits a gs → Stream limits b hs → FirstFault limits x o r → FirstFault limits y p q
     → a ++ x ≡ b ++ y → (gs ≡ hs) × (a ≡ b)
-same_front limits a b x y gs hs o p r q s t f k e = streams_same limits a b x y gs hs s t
-    (λ g front rest blob at. no_fault limits x rest g o r (record { front = front; whole = sym at; blob = blob }) f.fault)
-    (λ g front rest blob at. no_fault limits y rest g p q (record { front = front; whole = sym at; blob = blob }) k.fault)
-    e
+same_front limits a b x y gs hs o p r q s t f k e =
+    streams_same limits a b x y gs hs s t (none x o r f.fault) (none y p q k.fault) e
+  where
+    none : (x : List ℕ) (o : ℕ) (r : Reason) → Fault limits x o r → NoBlob limits x
+    none x o r f g front rest blob at =
+        no_fault limits x rest g o r (record { front = front; whole = sym at; blob = blob }) f
 
 -- a stream's first fault is unique, and so are the geometries before it
 pub one_stream_fault : (limits : Allowance) (bytes : List ℕ) (gs hs : List Tree) (o p : ℕ)

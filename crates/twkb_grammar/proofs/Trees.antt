@@ -177,8 +177,8 @@ simple_body : (s : Simple) (p : ℤ) (fs : List Frame) (meta : ℕ) (body : List
     → (b : Bool) → bit meta 4 ≡ b → BodyAt b (AreFields (fields s)) body
     → RunsBody (SimpleKind (form_of s)) p fs meta body (simple p s)
 simple_body s p fs meta body fit agrees true bare body_is e size from here =
-    bare_body (SimpleKind (form_of s)) p fs meta body (simple p s) bare body_is (left_out s p meta fit agrees bare) e size
-    from here
+    bare_body (SimpleKind (form_of s)) p fs meta body (simple p s) bare body_is
+    (left_out s p meta fit agrees bare) e size from here
 simple_body s p fs meta body fit agrees false full body_is e size from here =
     let h : Head = head p meta size from in
     rw full (shape_run h fs s fit agrees full e body here
