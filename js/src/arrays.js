@@ -72,7 +72,7 @@ function readInto(wasm, input, most) {
 export function found(blobs, limits, result) {
     const most = limitsOf(limits), input = bytesOf(blobs, 'a stream of blobs is bytes');
     return called(wasm => {
-        const { counts, found: rows } = readInto(wasm, input, most), output = result(rows);
+        const { counts, found: rows } = readInto(wasm, input, most), output = result(rows, wasm);
         if (counts.status === Status.REFUSED) {
             throw new Refused(counts.reason, reasonText(counts.reason), whereOf(counts), counts, output);
         }
@@ -80,24 +80,20 @@ export function found(blobs, limits, result) {
     });
 }
 
-/** The coordinates of all points in degrees, each by the precision of the geometry that it is in. */
-function allDegrees(rows) {
-    const xy = new Float64Array(2 * rows.points), { words } = rows;
-    let scale = null, word = rows.point, place = 0;
-    for (let row = 0; row < rows.rows; row++) {
-        const precision = rows.precision(row);
+/** The coordinates of all points in degrees, in the places of their units in the module's memory. */
+function inDegrees(wasm, rows) {
+    const xy = new Float64Array(memory(), 4 * rows.point, 2 * rows.points), { words, point } = rows;
+    const done = 2 * answered(() => wasm.to_degrees(4 * rows.row, rows.rows, 4 * point, rows.points));
+    // the module leaves the points from the first on that has a number past 2^51
+    for (let row = 0, place = 0, scale = null; done < xy.length && row < rows.rows; row++) {
+        const precision = rows.precision(row), end = place + 2 * rows.count(row);
         if (precision !== NO_PRECISION) scale = scaleOf(precision);
-        const { above, below } = scale, end = place + 2 * rows.count(row);
-        for (; place < end; word += 2) {
-            // most numbers have 32 bits; of above and below one is 1
-            const low = words[word];
-            xy[place++] = words[word + 1] === low >> 31 ? (low * above) / below : numberAt(words, word, scale);
-        }
+        for (; place < end; place++) if (place >= done) xy[place] = numberAt(words, point + 2 * place, scale);
     }
     return xy;
 }
 
-function arraysOf(rows, degrees) {
+function arraysOf(wasm, rows, degrees) {
     const count = rows.rows, arrays = {
         depths: new Uint8Array(count), kinds: new Uint8Array(count), precisions: new Int8Array(count),
         hasIds: new Uint8Array(count), ids: new BigInt64Array(count), offsets: new Uint32Array(count + 1), xy: null,
@@ -111,11 +107,12 @@ function arraysOf(rows, degrees) {
         arrays.ids[row] = ids[(ROW / 8) * row];
         arrays.offsets[row + 1] = arrays.offsets[row] + rows.count(row);
     }
-    arrays.xy = degrees ? allDegrees(rows) : new BigInt64Array(memory(), 4 * rows.point, 2 * rows.points).slice();
+    const xy = degrees ? inDegrees(wasm, rows) : new BigInt64Array(memory(), 4 * rows.point, 2 * rows.points);
+    arrays.xy = xy.slice();
     return arrays;
 }
 
 export function read(blobs, options = {}) {
     const limits = limitsAmong(options, 'degrees'), degrees = degreesOf(options);
-    return found(blobs, limits, rows => arraysOf(rows, degrees));
+    return found(blobs, limits, (rows, wasm) => arraysOf(wasm, rows, degrees));
 }

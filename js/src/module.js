@@ -100,7 +100,7 @@ async function renewLater(old) {
     inside = false;
 }
 
-/** Where the report of a conversion is. */
+/** What a call of the module returns: where its report is, or a count. */
 export function answered(conversion) {
     inside = true;
     const at = conversion() >>> 0;

@@ -1,8 +1,8 @@
 /** Geometries in typed arrays as a stream. */
-import { NO_PRECISION, ROW, ROW_WORDS } from './arrays.js';
+import { ROW, ROW_WORDS } from './arrays.js';
 import { checkObject, limitsAmong, limitsOf, styleOf } from './inputs.js';
 import { kindOf } from './kinds.js';
-import { POINT, answered, bytesAt, called, filled, memory, reasonText, reportAt } from './module.js';
+import { POINT, answered, bytesAt, called, filled, memory, reasonText } from './module.js';
 import { Reason, Status } from './reasons.js';
 import { Refused } from './refused.js';
 
@@ -10,8 +10,6 @@ const COLUMNS = {
     depths: [Uint8Array], kinds: [Uint8Array], precisions: [Int8Array], hasIds: [Uint8Array], ids: [BigInt64Array],
     offsets: [Uint32Array], xy: [Float64Array, BigInt64Array],
 };
-const OUTSIDE = 2n ** 62n; // the least number that no coordinate has
-const AT_ONCE = 2 ** 12; // numbers that are rounded at once
 const LARGE = 2 ** 16; // points and rows
 // A first guess at the output: of a few as much as they may take, of many as much as they mostly do.
 const [MOST_OF_ROW, MOST_OF_POINT, SOME_OF_ROW, SOME_OF_POINT] = [72, 20, 24, 8];
@@ -42,48 +40,17 @@ function checked(arrays) {
     return columns;
 }
 
-/** The ends of runs of coordinates that have one precision, and these precisions. */
-function* runsOf({ offsets, precisions, xy }) {
-    let precision = 0, begun = 0, end = 0;
-    for (let row = 0; row < precisions.length; row++) {
-        const own = precisions[row];
-        // one that is out of range is refused at its row
-        const next = own === NO_PRECISION ? precision : own >= -8 && own <= 7 ? own : 0;
-        if (next !== precision && end > begun) {
-            yield { begun, end, precision };
-            begun = end;
-        }
-        precision = next;
-        end = Math.min(2 * offsets[row + 1], xy.length);
-    }
-    if (end > begun) yield { begun, end, precision };
+/** Which number of a point is none of degrees, as an error. */
+function notFinite({ offsets, xy }, point) {
+    const row = offsets.findIndex(offset => offset > point) - 1, [x, y] = xy.subarray(2 * point);
+    const number = Number.isFinite(x) ? y : x;
+    return new RangeError(`row ${row}: point ${point - offsets[row]}: a coordinate is a finite number, not ${number}`);
 }
 
-/** Where a number is, for the error that it is none of degrees. */
-function notFinite({ offsets, xy }, place) {
-    const point = place >> 1, row = offsets.findIndex(offset => offset > point) - 1;
-    const number = `row ${row}: point ${point - offsets[row]}`;
-    return new RangeError(`${number}: a coordinate is a finite number, not ${xy[place]}`);
-}
-
-/** Rounds degrees to units at `to` by the module, some at a time through the bytes at `from`. */
-function putDegrees(wasm, arrays, from, to) {
-    const { xy } = arrays;
-    for (const { begun, end, precision } of runsOf(arrays)) {
-        for (let place = begun; place < end;) {
-            const some = xy.subarray(place, Math.min(end, place + AT_ONCE)), units = to + 8 * place;
-            new Float64Array(memory(), from, some.length).set(some);
-            const { status, sent } = reportAt(
-                answered(() => wasm.round_numbers(from, some.length, precision, units, some.length)),
-            );
-            place += sent;
-            if (status === Status.DONE) continue;
-            if (!Number.isFinite(xy[place])) throw notFinite(arrays, place);
-            // a number that is out of range, which its row is refused for
-            new BigInt64Array(memory(), to + 8 * place, 1)[0] = OUTSIDE;
-            place++;
-        }
-    }
+/** Has the module round degrees to units, each in its place. */
+function roundDegrees(wasm, arrays, points, rows) {
+    const count = arrays.xy.length / 2, done = answered(() => wasm.to_units(rows, arrays.kinds.length, points, count));
+    if (done < count) throw notFinite(arrays, done);
 }
 
 function putRows(at, { depths, kinds, precisions, hasIds, ids, offsets }) {
@@ -98,16 +65,16 @@ function putRows(at, { depths, kinds, precisions, hasIds, ids, offsets }) {
     }
 }
 
-/** Points, in whole numbers and in their order, the rows after them, and bytes in which degrees are rounded. */
+/** Points, in whole numbers and in their order, and the rows after them. */
 function inputOf(wasm, arrays) {
-    const { xy, kinds } = arrays, points = POINT * (xy.length / 2), rows = ROW * kinds.length;
-    const inDegrees = xy instanceof Float64Array;
+    const { xy, kinds } = arrays, points = POINT * (xy.length / 2), isDegrees = xy instanceof Float64Array;
     return {
-        points, length: points + rows + (inDegrees ? 8 * AT_ONCE : 0),
+        points, length: points + ROW * kinds.length,
         put(at) {
-            if (inDegrees) putDegrees(wasm, arrays, at + points + rows, at);
-            else new BigInt64Array(memory(), at, xy.length).set(xy);
+            const Numbers = isDegrees ? Float64Array : BigInt64Array;
+            new Numbers(memory(), at, xy.length).set(xy);
             putRows(at + points, arrays);
+            if (isDegrees) roundDegrees(wasm, arrays, at, at + points);
         },
     };
 }

@@ -7,7 +7,9 @@ import * as polytwkb from '../polytwkb.js';
 import { Reason } from '../src/reasons.js';
 import { HEADER } from './rows.mjs';
 
-const { pack, unpack, unpackBytes, show, split, encode, decode, decodeFlat, geometries, Limits, Refused } = polytwkb;
+const { pack, unpack, unpackBytes, show, split, encode, decode, decodeFlat, geometries, read, write, Limits, Refused } = polytwkb;
+
+const PRECISIONS = Array.from({ length: 16 }, (_, place) => place - 8);
 
 await polytwkb.load();
 
@@ -139,7 +141,8 @@ test('a number that is the nearest one to a half counts as that half', () => {
     ]) assert.equal(decodeFlat(encode([[number, 0]], precision))[0], unit, `${number} at ${precision}`);
 });
 
-test('rounding is exact', () => {
+/** Numbers of each precision, with the units that they are due to become. */
+function* rounded() {
     let state = 7;
     const random = () => (state = (state * 1103515245 + 12345) % 2 ** 31) / 2 ** 31;
     for (let round = 0; round < 100000; round++) {
@@ -149,8 +152,44 @@ test('rounding is exact', () => {
         if (round % 4 > 1) number = beside(number, Math.floor(random() * 5) - 2);
         if (Math.abs(number) > 1e20 || Math.abs(number) / unit > 2 ** 61) continue;
         if (Math.abs(number) < 2 ** -48) number = 0; // so it has at most 100 places
+        yield [number, precision, nearestOf(number, precision)];
+    }
+}
+
+test('rounding is exact', () => {
+    for (const [number, precision, due] of rounded()) {
         const [got] = decodeFlat(encode([[number, 0]], precision));
-        assert.equal(got, nearestOf(number, precision), `${number} at ${precision}`);
+        assert.equal(got, due, `${number} at ${precision}`);
+    }
+});
+
+/** The arrays of lines of these precisions, each with as many of the numbers. */
+function linesOf(xy, precisions) {
+    const { length } = precisions, points = xy.length / 2 / length;
+    const [depths, kinds] = [new Uint8Array(length), new Uint8Array(length).fill(2)];
+    const offsets = Uint32Array.from({ length: length + 1 }, (_, row) => row * points);
+    return { depths, kinds, precisions: Int8Array.from(precisions), offsets, xy };
+}
+
+test('rounding of arrays is exact', () => {
+    const all = [...rounded()];
+    for (const precision of PRECISIONS) {
+        const rows = all.filter(row => row[1] === precision);
+        const xy = Float64Array.from(rows.flatMap(([number]) => [number, -number]));
+        const due = BigInt64Array.from(rows.flatMap(([, , unit]) => [unit, -unit]));
+        assert.deepEqual(read(write(linesOf(xy, [precision])), { degrees: false }).xy, due, `at ${precision}`);
+    }
+});
+
+// Some are converted by the module; those from the first one on that is past 2^51 are not.
+test('degrees of arrays of any size are the nearest ones', () => {
+    const powers = [0n, 8n, 31n, 32n, 40n, 50n, 51n, 52n, 53n, 54n, 61n].map(bits => 2n ** bits);
+    const sizes = powers.flatMap(power => [power - 1n, power, power + 1n]);
+    const units = [...sizes.flatMap(size => [size, -size]), 2n ** 62n - 1n, -(2n ** 62n)];
+    for (const numbers of [units, [...units].reverse(), units.filter(unit => unit * unit < 2n ** 102n)]) {
+        const lines = linesOf(BigInt64Array.from(PRECISIONS.flatMap(() => numbers)), PRECISIONS);
+        const due = Float64Array.from(PRECISIONS.flatMap(precision => numbers.map(unit => Number(`${unit}e${-precision}`))));
+        assert.deepEqual(read(write(lines)).xy, due);
     }
 });
 

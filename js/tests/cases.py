@@ -6,7 +6,7 @@ Streams and tables come from the generators of tests/fuzz (random trees with eve
 with other limits than those have; polylines and points are made here. The room of the output is enough, or any
 other. A record: the call, its numbers, the input, the report, and the whole room of the output afterwards, which was
 full of 0xA5 before. Arrays are points and then rows; of those that are written, the second room is the number of
-points.
+points. Of numbers that are rounded, the style is the precision and 8 more.
 """
 import ctypes
 import os
@@ -19,13 +19,14 @@ sys.path.insert(0, os.path.join(os.path.dirname(os.path.abspath(__file__)), ".."
 import fuzz
 from arrays import bytes_of_points, bytes_of_rows, some_arrays
 from polyline import spelled
+from rounding import some_double
 from trees import some_tree
 
-PACK, UNPACK, SHOW, ENCODE, DECODE, READ, WRITE = range(7)
-NAMES = ("pack", "unpack", "show", "encode", "decode", "read", "write")
+PACK, UNPACK, SHOW, ENCODE, DECODE, READ, WRITE, ROUND = range(8)
+NAMES = ("pack", "unpack", "show", "encode", "decode", "read", "write", "round")
 TOO_SMALL = 5
 FILL = 0xA5
-POINT, ROW = 16, 24
+NUMBER, POINT, ROW = 8, 16, 24
 WILD = (2**62 - 1, 2**62, -(2**62), -(2**62) - 1, 2**63 - 1, -(2**63))
 STEPS = (1, 15, 16, 500, 16384, 2**19, 2**20, 10**7)
 
@@ -54,6 +55,7 @@ def loaded(path):
     for name, (buffers, more) in zip(NAMES, kinds):
         call = getattr(library, "polytwkb_" + name)
         call.argtypes, call.restype = buffers * buffer + more, Counts if name == "read" else Report
+    library.polytwkb_round.argtypes, library.polytwkb_round.restype = [*buffer, ctypes.c_int32, *buffer], Report
     return library
 
 
@@ -89,6 +91,13 @@ def some_points(chance):
     return struct.pack(f"<{len(numbers)}q", *numbers)
 
 
+def some_numbers(chance, precision):
+    """Finite doubles as bytes, two for each point; mostly those that have a coordinate."""
+    numbers = [some_double(chance, precision) for _ in range(chance.choice((0, 2, 8, 40, 200)))]
+    most = 2.0**61 / 10.0**precision if chance.random() < 0.7 else sys.float_info.max
+    return struct.pack(f"<{len(numbers)}d", *(number if abs(number) <= most else 0.0 for number in numbers))
+
+
 def limits_of(chance, nest):
     """Often the standard ones, now and then out of range."""
     nodes = 1 << 20 if chance.random() < 0.7 else chance.choice((1, 2, 3, 5, 20, 1 << 20, 0, (1 << 20) + 1))
@@ -104,7 +113,10 @@ class Call:
         self.chance = chance = random.Random(f"{seed}/{number}")
         self.limits, self.style, self.points = (0, 0, 0), 0, 0
         kind = chance.random()
-        if kind < 0.1:
+        if kind < 0.05:
+            self.what, self.style = ROUND, chance.randrange(16)
+            self.source = some_numbers(chance, self.style - 8)
+        elif kind < 0.1:
             self.what, self.source = DECODE, some_polyline(chance)
         elif kind < 0.2:
             self.what, self.source = ENCODE, some_points(chance)
@@ -138,7 +150,7 @@ class Call:
     def enough(self):
         """Rooms that do, or nearly."""
         size = len(self.source)
-        sizes = {PACK: size, ENCODE: 2 * size, DECODE: size // 2, READ: size}
+        sizes = {PACK: size, ENCODE: 2 * size, DECODE: size // 2, READ: size, ROUND: size}
         return sizes.get(self.what, 20 * size) + 64, size // 2 + 8 if self.what == READ else self.points
 
     def answer(self, rooms):
@@ -158,6 +170,8 @@ class Call:
         if self.what == WRITE:
             rows = POINT * second
             return given + rows, (size - rows) // ROW, given, second, output, first, limits, self.style
+        if self.what == ROUND:
+            return given, size // NUMBER, self.style - 8, output, first // NUMBER
         more = {PACK: [limits, self.style], UNPACK: [limits], SHOW: [limits]}.get(self.what, [])
         return given, size // (POINT if self.what == ENCODE else 1), output, first, *more
 
@@ -176,7 +190,7 @@ def exactly(call, report):
 def recorded(call):
     rooms = call.enough
     report, output = call.answer(rooms)
-    if report.status != TOO_SMALL:
+    if report.status != TOO_SMALL and call.what != ROUND:
         rooms = exactly(call, report)
         report, output = call.answer(rooms)
     report = bytes(report)

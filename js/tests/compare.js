@@ -1,7 +1,9 @@
 // Compares modules and the package with what the native library answered (cases.py). For node and for browsers.
-const NAMES = ['pack', 'unpack', 'show', 'encode', 'decode', 'read', 'write'];
-const [PACK, , , ENCODE, DECODE, READ, WRITE] = NAMES.keys();
+const NAMES = ['pack', 'unpack', 'show', 'encode', 'decode', 'read', 'write', 'round'];
+const [PACK, , , ENCODE, DECODE, READ, WRITE, ROUND] = NAMES.keys();
 const [HEAD, POINT, ROW, FILL, BEHIND] = [40, 16, 24, 0xa5, 64];
+const OUTSIDE = 2n ** 62n; // what a number becomes that has no unit
+const FAR = 2n ** 51n; // units of such a size are left to the package
 const MOST_TOLD = 10;
 
 const padded = size => (size + 15) & ~15;
@@ -39,10 +41,28 @@ function argumentsOf({ call, style, limits, rooms: [first, second], source }, fr
     return [from, call === ENCODE ? length / POINT : length, to, first, ...more];
 }
 
+/** What a record of rounding finds wrong with a module, which rounds in place, and back. The style is the precision and 8. */
+function roundingFault(exports, { style, source, report, output }) {
+    const { length } = source, from = exports.buffers(length + ROW) >>> 0, row = from + length, { buffer } = exports.memory;
+    const units = new BigInt64Array(buffer, from, length / 8), degrees = new Float64Array(buffer, from, length / 8);
+    const count = length / POINT, due = Number(viewOf(report).getBigUint64(32, true));
+    const expected = new BigInt64Array(new Uint8Array(output.subarray(0, 8 * due)).buffer);
+    new Uint8Array(buffer, from, length).set(source);
+    new BigInt64Array(buffer, row, ROW / 8).set([0n, BigInt(count), BigInt(style - 8) << 56n]);
+    if (exports.to_units(row, 1, from, count) !== count) return 'points that are not rounded';
+    if (expected.some((unit, place) => unit !== units[place])) return 'units';
+    if (due < units.length) return units[due] === OUTSIDE ? '' : 'a number that has no unit';
+    const far = expected.findIndex(unit => unit < -FAR || unit >= FAR), done = far < 0 ? count : far >> 1;
+    if (exports.to_degrees(row, 1, from, count) !== done) return 'points that are not converted';
+    const wrong = expected.findIndex((unit, place) => degrees[place] !== Number(`${unit}e${8 - style}`));
+    return wrong < 0 || wrong >= 2 * done ? '' : `${degrees[wrong]} degrees of ${expected[wrong]}`;
+}
+
 /** What a record finds wrong with a module, or an empty text. */
 export async function checking(bytes) {
     const { exports } = await WebAssembly.instantiate(await WebAssembly.compile(bytes));
     return record => {
+        if (record.call === ROUND) return roundingFault(exports, record);
         const { call, source, report, output } = record, size = output.length;
         const from = exports.buffers(padded(source.length) + size + BEHIND) >>> 0, to = from + padded(source.length);
         const memory = (start, length) => new Uint8Array(exports.memory.buffer, start, length);
@@ -137,7 +157,7 @@ function refusalOf({ call, report }) {
 export function checkingPackage(polytwkb) {
     return record => {
         const made = viewOf(record.report).getUint32(0, true) > 1 ? null : calling(polytwkb, record);
-        if (!made) return '';
+        if (!made) return ''; // also what is rounded
         const [run, form] = made;
         let got, found = '';
         try {

@@ -106,6 +106,8 @@ test('wrong arrays', () => {
         const isRange = fault => fault instanceof RangeError && !(fault instanceof OutOfMemory);
         assert.throws(() => write({ ...right, ...change }), isRange);
     }
+    const infinite = linesOf([[1, 1], [2, 1, 3, -Infinity, NaN, 1]], 0, Float64Array);
+    assert.throws(() => write(infinite), { message: 'row 1: point 1: a coordinate is a finite number, not -Infinity' });
     const kind = kinds[0];
     assert.throws(() => write({ ...right, kinds: Uint8Array.of(kind, kind), depths: new Uint8Array(2) }), RangeError);
     const two = linesOf([[1n, 1n], [2n, 2n]], 0);

@@ -1,45 +1,11 @@
 /*
  * The calls of JavaScript, with numbers of 32 bits. Not proved; js/tests compares them with the native library.
- *
- * The functions of the library are declared as its module has them, which was made for the calls of x86-64: the report
- * is written where the first argument points, which is returned too, and limits are where an argument points, and are
- * the function's own. The linker refuses other types.
  */
-typedef unsigned char byte;
-typedef unsigned int u32;
-typedef unsigned long u64; /* and a pointer */
-
-struct limits {
-    u32 nest, nodes, points;
-};
-
-struct report {
-    u32 status, reason;
-    u64 place, text_offset, done, sent, needed;
-};
-
-struct counts {
-    u32 status, reason;
-    u64 place, done, rows, points, needed_rows, needed_points;
-};
-
-struct report *polytwkb_pack(struct report *, const byte *, u64, byte *, u64, struct limits *, u32);
-struct report *polytwkb_unpack(struct report *, const byte *, u64, byte *, u64, struct limits *);
-struct report *polytwkb_show(struct report *, const byte *, u64, byte *, u64, struct limits *);
-struct report *polytwkb_encode(struct report *, const byte *, u64, byte *, u64);
-struct report *polytwkb_decode(struct report *, const byte *, u64, byte *, u64);
-struct report *polytwkb_round(struct report *, const double *, u64, int, long *, u64);
-struct report *polytwkb_write(struct report *, const byte *, u64, const byte *, u64, byte *, u64, struct limits *, u32);
-struct counts *polytwkb_read(struct counts *, const byte *, u64, byte *, u64, byte *, u64, struct limits *);
-u64 polytwkb_reason_text(u32, byte *, u64);
-u64 polytwkb_version(byte *, u64);
+#include "library.h"
 
 static struct report report;
 static struct counts counts;
 static byte text[32];
-
-#define AT(address) ((byte *)(u64)(address))
-#define NUMBER(pointer) ((u32)(u64)(pointer))
 
 /* Each of these answers where the report is. */
 u32 pack(u32 input, u32 length, u32 output, u32 room, u32 nest, u32 nodes, u32 points, u32 style) {
@@ -63,11 +29,6 @@ u32 encode(u32 points, u32 count, u32 output, u32 room) {
 
 u32 decode(u32 input, u32 length, u32 points, u32 room) {
     return NUMBER(polytwkb_decode(&report, AT(input), length, AT(points), room));
-}
-
-/* Named so because `round` is a function of C that clang knows. */
-u32 round_numbers(u32 numbers, u32 count, int precision, u32 units, u32 room) {
-    return NUMBER(polytwkb_round(&report, (const double *)AT(numbers), count, precision, (long *)AT(units), room));
 }
 
 u32 write(u32 rows, u32 row_count, u32 points, u32 point_count, u32 output, u32 room, u32 nest, u32 nodes, u32 most,

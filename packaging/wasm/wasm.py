@@ -1,15 +1,15 @@
 """Reads sections and instructions of a WebAssembly module: those that modules of this project have, and no others."""
 import sys
 
-I32, I64, V128 = 0x7F, 0x7E, 0x7B
+I32, I64, F64, V128 = 0x7F, 0x7E, 0x7C, 0x7B
 CALL, LOCAL_GET, LOCAL_SET, LOCAL_TEE, GLOBAL_GET, I32_CONST, I64_CONST = 0x10, 0x20, 0x21, 0x22, 0x23, 0x41, 0x42
-MEMORY_SIZE, MEMORY_GROW, I32_WRAP, I64_EXTEND_S, I64_EXTEND_U = 0x3F, 0x40, 0xA7, 0xAC, 0xAD
+MEMORY_SIZE, MEMORY_GROW, F64_CONST, I32_WRAP, I64_EXTEND_S, I64_EXTEND_U = 0x3F, 0x40, 0x44, 0xA7, 0xAC, 0xAD
 BULK, SIMD = 0xFC00, 0xFD00
 MEMORY_COPY, MEMORY_FILL = BULK + 10, BULK + 11
 V128_STORE, V128_CONST = SIMD + 11, SIMD + 12
 
 LOADS = {*range(0x28, 0x36), *range(SIMD, SIMD + 11), SIMD + 92, SIMD + 93}
-STORES = {0x36: I32, 0x37: I64, 0x3A: I32, 0x3B: I32, 0x3C: I64, 0x3D: I64, 0x3E: I64, V128_STORE: V128}
+STORES = {0x36: I32, 0x37: I64, 0x39: F64, 0x3A: I32, 0x3B: I32, 0x3C: I64, 0x3D: I64, 0x3E: I64, V128_STORE: V128}
 LANES = set(range(SIMD + 84, SIMD + 92))  # loads and stores of a lane: the vector is above the address
 BARE = {0x00, 0x01, 0x05, 0x0B, 0x0F, 0x1A, 0x1B}  # unreachable, nop, else, end, return, drop, select
 
@@ -134,6 +134,8 @@ def instructions(reader):
             written = reader.take(1)
         elif code == MEMORY_COPY:
             written = reader.take(2)
+        elif code == F64_CONST:
+            written = reader.take(8)
         elif code in (V128_CONST, SIMD + 13):  # i8x16.shuffle
             written = reader.take(16)
         elif SIMD + 21 <= code <= SIMD + 34:  # extract_lane, replace_lane
