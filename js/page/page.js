@@ -35,6 +35,7 @@ function ask(call, ...given) {
 
 let opened = null;
 let chosen = null; // a header
+let turns = 0; // how many were opened
 
 const grouped = number => String(number).replace(/\B(?=(\d{3})+$)/g, '\u202f');
 const isTable = bytes => new TextDecoder().decode(bytes.subarray(0, 9)).replace(/^[\ufeff"]+/, '').startsWith('depth');
@@ -46,26 +47,50 @@ function bytesOfHex(text) {
     return Uint8Array.from({ length: digits.length / 2 }, (_, place) => parseInt(digits.substr(2 * place, 2), 16));
 }
 
-async function open(bytes) {
+/** Shows a table and its fault as soon as it is packed, and the rest when its stream is read. */
+async function open(given) {
+    const turn = ++turns, isLast = () => turn === turns; // none was opened meanwhile
     at('refused').hidden = true;
     try {
-        opened = await ask('open', bytes, isTable(bytes));
+        const first = isTable(given) ? { ...await ask('pack', given), table: given } : { bytes: given };
+        if (!isLast()) return;
+        showFirst(first);
+        const rest = await ask('read', first.bytes);
+        if (isLast()) showRest({ ...rest, ...first }, !first.table);
     } catch (fault) {
-        tell(fault.message);
-        return;
+        if (isLast()) tell(fault.message);
     }
+}
+
+/** Shows the bytes, and the table if it was given. */
+function showFirst(first) {
+    opened = first;
     chosen = null;
-    opened.wrongLine = opened.fault?.isRecord ? lineOfRecord(opened.fault.place) : -1;
-    lists.headers.reset(opened.headers.offset.length);
-    lists.table.reset(opened.lines.length);
+    lists.headers.reset(0);
     lists.bytes.reset(Math.floor(opened.bytes.length / WIDTH) + 1);
+    picture.clear();
+    at('legend').replaceChildren();
+    showTable();
+}
+
+/** Shows what was read of the stream; also the table, if the stream was given. */
+function showRest(all, isStream) {
+    opened = all;
+    lists.headers.reset(opened.headers.offset.length);
+    if (isStream) showTable();
     at('picture').classList.toggle('empty', opened.sizes.points === 0);
     tellSizes();
     tellKinds();
-    picture.mark(null);
     picture.fit(opened.bounds);
-    if (opened.fault) tellFault();
     document.dispatchEvent(new CustomEvent('opened', { detail: opened }));
+}
+
+/** Shows the table, if it is there, and the fault. */
+function showTable() {
+    const { lines = [], fault } = opened;
+    opened.wrongLine = fault?.isRecord ? lineOfRecord(fault.place) : -1;
+    lists.table.reset(lines.length);
+    if (fault) tellFault();
 }
 
 function tell(text) {
@@ -78,6 +103,7 @@ function tellFault() {
     const before = `${grouped(done)} geometr${done === 1 ? 'y' : 'ies'}`;
     tell(`Refused: ${message} (${code}). Shown is what is before it: ${before}.`);
     showFault();
+    document.dispatchEvent(new CustomEvent('refused', { detail: opened.fault }));
 }
 
 function showFault() {
@@ -88,11 +114,13 @@ function showFault() {
 
 /** The line of a record, from 1: blank lines are no records. It looks at each line, so it is asked once a table. */
 function lineOfRecord(record) {
-    const { table: bytes, lines } = opened, isEnd = byte => byte === 10 || byte === 13;
+    const { table: bytes, lines } = opened;
     let line = 0;
     for (let seen = 0; line < lines.length; line++) {
         const end = line + 1 < lines.length ? lines[line + 1] : bytes.length;
-        if (!bytes.subarray(lines[line], end).every(isEnd) && ++seen === record) break;
+        let at = lines[line];
+        while (at < end && (bytes[at] === 10 || bytes[at] === 13)) at++;
+        if (at < end && ++seen === record) break;
     }
     return Math.min(line, lines.length - 1);
 }

@@ -81,9 +81,14 @@ export class Picture {
         if (header >= 0) this.choose(header);
     }
 
+    clear() {
+        this.chosen = null;
+        this.put({ areas: [], lines: '', dots: '', small: '' }, null);
+    }
+
     /** Marks a header, and those in it, up to the next. */
     mark(header, next) {
-        this.chosen = header === null ? null : [header, next];
+        this.chosen = [header, next];
         this.draw();
     }
 

@@ -1,6 +1,9 @@
 /** The geometries of a stream as flat lists: points, the parts that they make, and the headers that have them. */
 
 export const [DOT, LINE, RING] = [0, 1, 2];
+const POLYGON = 3;
+const PARTS = { 1: DOT, 2: LINE, 8: RING }; // what the points of a kind are
+const NO_PRECISION = -128; // of a row that has no header
 
 /** A list of numbers of one type that grows. */
 export class Numbers {
@@ -42,37 +45,33 @@ export class Shapes {
     /** Where a part ends. */
     end(part) { return part + 1 < this.starts.length ? this.starts.all[part + 1] : this.points; }
 
-    add({ type, coordinates, geometries }) {
-        this.parts.push(this.starts.length);
-        this.rows.push(this.row++);
-        if (type === 'Point') this.part(DOT, coordinates.length ? [coordinates] : []);
-        else if (type === 'LineString') this.part(LINE, coordinates);
-        else if (type === 'Polygon') this.polygon(coordinates);
-        else if (type === 'GeometryCollection') for (const member of geometries) this.add(member);
-        else for (const member of coordinates) this.member(type, member);
-    }
-
-    member(type, coordinates) {
-        this.row++;
-        if (type === 'MultiPoint') this.part(DOT, coordinates.length ? [coordinates] : []);
-        else if (type === 'MultiLineString') this.part(LINE, coordinates);
-        else this.polygon(coordinates);
-    }
-
-    polygon(rings) {
-        this.area++;
-        for (const ring of rings) {
+    /** Adds geometries that `read` of the package gives. */
+    add({ kinds, precisions, offsets, xy }) {
+        const { points } = this;
+        for (let row = 0; row < kinds.length; row++) {
+            if (precisions[row] !== NO_PRECISION) {
+                this.parts.push(this.starts.length);
+                this.rows.push(this.row);
+            }
             this.row++;
-            this.part(RING, ring);
+            if (kinds[row] === POLYGON) this.area++;
+            else this.part(kinds[row], points + offsets[row]);
         }
+        this.addPoints(xy);
     }
 
-    part(kind, points) {
-        this.starts.push(this.points);
-        this.kinds.push(kind);
+    /** The part that a row is, if its kind has points. */
+    part(kind, start) {
+        if (!(kind in PARTS)) return;
+        this.starts.push(start);
+        this.kinds.push(PARTS[kind]);
         this.areas.push(this.area);
+    }
+
+    addPoints(xy) {
         const { xs, ys, bounds } = this;
-        for (const [x, y] of points) {
+        for (let at = 0; at < xy.length; at += 2) {
+            const x = xy[at], y = xy[at + 1];
             xs.push(x);
             ys.push(y);
             if (x < bounds.left) bounds.left = x;

@@ -33,12 +33,19 @@ class Headers {
         this.counts = {};
     }
 
-    add(header, base) {
-        const { columns, counts } = this, { kind } = header;
-        for (const name of ['length', 'points', 'level', 'precision', 'metadata']) columns[name].push(header[name]);
-        columns.offset.push(base + header.offset);
-        columns.kind.push(KINDS.indexOf(kind));
-        counts[kind] = (counts[kind] ?? 0) + 1;
+    /** Adds headers of blobs that begin at a byte of the stream. */
+    add(headers, base) {
+        const { columns: { offset, length, points, level, kind, precision, metadata }, counts } = this;
+        for (const header of headers) {
+            offset.push(base + header.offset);
+            length.push(header.length);
+            points.push(header.points);
+            level.push(header.level);
+            kind.push(KINDS.indexOf(header.kind));
+            precision.push(header.precision);
+            metadata.push(header.metadata);
+            counts[header.kind] = (counts[header.kind] ?? 0) + 1;
+        }
     }
 
     get lists() {
@@ -80,18 +87,24 @@ function* piecesOf(bytes) {
     for (let at = 0; at < bytes.length; at += PIECE) yield bytes.subarray(at, at + PIECE);
 }
 
-/** Reads a stream blob by blob: its shapes, its headers, its table, and its sizes in both styles. */
-async function readStream(pieces) {
+/** Packs a table: its stream, where its lines begin, and its fault. */
+function pack(table) {
+    const { output: bytes, fault } = tried(() => polytwkb.pack(table));
+    return { bytes, lines: linesOf(table), fault: fault && refusalOf(fault, true) };
+}
+
+/** Reads a stream blob by blob: its shapes, its headers, its sizes in both styles, its table and its fault. */
+async function read(bytes) {
     const headers = new Headers(), text = new Text(), sizes = { full: 0, plain: 0 };
     let base = 0, fault = null;
     shapes = new Shapes();
     try {
-        for await (const blobs of polytwkb.stream(pieces)) {
-            for (const header of polytwkb.show(blobs)) headers.add(header, base);
-            for (const geometry of polytwkb.geometries(blobs)) shapes.add(geometry);
-            const table = polytwkb.unpackBytes(blobs);
-            text.add(table);
-            for (const style of ['full', 'plain']) sizes[style] += polytwkb.pack(table, style).length;
+        for await (const blobs of polytwkb.stream(piecesOf(bytes))) {
+            headers.add(polytwkb.show(blobs), base);
+            shapes.add(polytwkb.read(blobs));
+            const units = polytwkb.read(blobs, { degrees: false });
+            for (const style of ['full', 'plain']) sizes[style] += polytwkb.write(units, { style }).length;
+            text.add(polytwkb.unpackBytes(blobs));
             base += blobs.length;
             postMessage({ progress: base });
         }
@@ -99,18 +112,10 @@ async function readStream(pieces) {
         if (!(refused instanceof polytwkb.Refused)) throw refused;
         fault = refusalOf(refused, false);
     }
-    return { headers, table: text.bytes, sizes, fault };
-}
-
-/** Opens a table or a stream: all that the page shows of it. */
-async function open(given, isTable) {
-    const packed = isTable ? tried(() => polytwkb.pack(given)) : { output: given, fault: null }, bytes = packed.output;
-    const { headers, table, sizes, fault } = await readStream(piecesOf(bytes));
-    const shown = isTable ? given : table;
+    const table = text.bytes;
     return {
-        bytes, table: shown, lines: linesOf(shown), headers: headers.lists, counts: headers.counts,
-        rows: shapes.rows.list, sizes: { ...sizes, table: table.length, given: given.length, points: shapes.points },
-        bounds: shapes.bounds, fault: packed.fault ? refusalOf(packed.fault, true) : fault,
+        table, lines: linesOf(table), fault, headers: headers.lists, counts: headers.counts, rows: shapes.rows.list,
+        sizes: { ...sizes, table: table.length, points: shapes.points }, bounds: shapes.bounds,
     };
 }
 
@@ -132,7 +137,7 @@ function headerOf(part) {
 }
 
 const calls = {
-    open,
+    pack, read,
     picture: view => drawn(shapes, view),
     chosen: (view, header, next) => drawn(shapes, view, ...partsOf(header, next)),
     headerAt(x, y, near) {
@@ -141,12 +146,19 @@ const calls = {
     },
 };
 
+/** The buffers of the arrays in a value. Each call makes new ones, which are handed over and not copied. */
+function buffersOf(value) {
+    if (ArrayBuffer.isView(value)) return [value.buffer];
+    return value && typeof value === 'object' ? Object.values(value).flatMap(buffersOf) : [];
+}
+
 const loaded = polytwkb.load();
 
 onmessage = async ({ data: { id, call, given } }) => {
     try {
         await loaded;
-        postMessage({ id, value: await calls[call](...given) });
+        const value = await calls[call](...given);
+        postMessage({ id, value }, buffersOf(value));
     } catch (fault) {
         postMessage({ id, fault: `${fault.name}: ${fault.message}` });
     }
