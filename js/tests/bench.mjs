@@ -52,6 +52,11 @@ function leastOf(calls) {
     return least;
 }
 
+/** The same in nanoseconds a point. */
+function eachOf(calls, points) {
+    return Object.entries(leastOf(calls)).map(([call, time]) => `${call} ${((time * 1e6) / points).toFixed(0)}`).join(', ');
+}
+
 function nativeTimes(table, blobs) {
     const folder = mkdtempSync(join(tmpdir(), 'polytwkb-bench-'));
     const files = ['table', 'blobs'].map(name => join(folder, name));
@@ -94,6 +99,11 @@ for (const [name, row] of Object.entries(ROWS)) {
         show: () => polytwkb.show(blobs), geometries: () => polytwkb.geometries(blobs),
         'plain decoder': () => plain.geometries(blobs),
     };
-    const each = Object.entries(leastOf(times)).map(([call, time]) => `${call} ${((time * 1e6) / points).toFixed(0)}`);
-    console.log(`  ns a point: ${each.join(', ')}`);
+    console.log(`  ns a point: ${eachOf(times, points)}`);
+    const degrees = polytwkb.read(blobs), units = polytwkb.read(blobs, { degrees: false });
+    const arrays = {
+        'read to units': () => polytwkb.read(blobs, { degrees: false }), 'to degrees': () => polytwkb.read(blobs),
+        'write of units': () => polytwkb.write(units), 'of degrees': () => polytwkb.write(degrees),
+    };
+    console.log(`  arrays, ns a point: ${eachOf(arrays, points)}`);
 }
