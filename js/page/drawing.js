@@ -6,6 +6,7 @@ const MOST_AREAS = 3000;
 const SMALL = 3; // pixels: a smaller area is drawn as a dot
 const FAR = 20000; // pixels: what lies farther outside is drawn there
 const CELL = 3; // pixels: one dot is drawn for all in such a square
+const LONGEST = 20000; // letters of a path: a browser takes far more than twice the time for twice as many
 
 /** A view: x and y of its upper left corner, pixels for a unit, and its size in pixels. */
 class Pen {
@@ -100,6 +101,25 @@ class Drawn {
     }
 }
 
+/** Lines or dots as paths of no more than so many letters. A line that has more goes on in the next path. */
+function pathsOf(parts) {
+    const paths = [];
+    let path = '';
+    for (let part of parts) {
+        while (part.length > LONGEST) {
+            const end = part.lastIndexOf('L', LONGEST), last = part.lastIndexOf('L', end - 1);
+            paths.push(part.slice(0, end));
+            part = `M${part.slice(last + 1)}`;
+        }
+        if (path.length + part.length > LONGEST) {
+            paths.push(path);
+            path = '';
+        }
+        path += part;
+    }
+    return path ? [...paths, path] : paths;
+}
+
 /** The paths of some parts, by a step that keeps them within what a browser draws at once. */
 export function drawn(shapes, view, first = 0, last = shapes.starts.length) {
     for (let step = 0.5; ; step *= 2) {
@@ -107,7 +127,7 @@ export function drawn(shapes, view, first = 0, last = shapes.starts.length) {
         made.parts(first, last);
         if (pen.vertices > MOST_VERTICES && step < 16) continue;
         const { areas, lines, dots, small } = made;
-        return { areas, lines: lines.join(''), dots: dots.join(''), small: small.join('') };
+        return { areas, lines: pathsOf(lines), dots: pathsOf(dots), small: pathsOf(small) };
     }
 }
 

@@ -2,6 +2,7 @@
 
 const MARGIN = 0.06;
 const NEAR = 8; // pixels from what is pointed at
+const NOTHING = { areas: [], lines: [], dots: [], small: [] };
 
 export class Picture {
     /** `ask` asks the worker; `choose` is called with the header that is pointed at. */
@@ -83,7 +84,7 @@ export class Picture {
 
     clear() {
         this.chosen = null;
-        this.put({ areas: [], lines: '', dots: '', small: '' }, null);
+        this.put(NOTHING, NOTHING);
     }
 
     /** Marks a header, and those in it, up to the next. */
@@ -109,23 +110,25 @@ export class Picture {
         this.again = false;
         const view = { ...this.view, ...this.size };
         const [all, marked] = await Promise.all([
-            this.ask('picture', view), this.chosen ? this.ask('chosen', view, ...this.chosen) : null,
+            this.ask('picture', view), this.chosen ? this.ask('chosen', view, ...this.chosen) : NOTHING,
         ]);
         this.put(all, marked);
     }
 
-    put({ areas, lines, dots, small }, marked) {
-        const path = name => this.svg.querySelector(name);
-        path('.areas').replaceChildren(...areas.map(area => {
-            const element = document.createElementNS(this.svg.namespaceURI, 'path');
-            element.setAttribute('d', area);
+    put(all, marked) {
+        for (const name of Object.keys(NOTHING)) this.fill(`.${name}`, all[name]);
+        this.fill('.chosen.area', marked.areas);
+        this.fill('.chosen.line', marked.lines);
+        this.fill('.chosen.dot', [...marked.dots, ...marked.small]);
+    }
+
+    /** Puts paths into a group in place of those that it has. */
+    fill(group, paths) {
+        const { svg } = this;
+        svg.querySelector(group).replaceChildren(...paths.map(path => {
+            const element = document.createElementNS(svg.namespaceURI, 'path');
+            element.setAttribute('d', path);
             return element;
         }));
-        path('.lines').setAttribute('d', lines);
-        path('path.dots').setAttribute('d', dots);
-        path('.small').setAttribute('d', small);
-        path('.chosen.area').setAttribute('d', marked ? marked.areas.join('') : '');
-        path('.chosen.line').setAttribute('d', marked ? marked.lines : '');
-        path('.chosen.dot').setAttribute('d', marked ? marked.dots + marked.small : '');
     }
 }

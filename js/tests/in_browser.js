@@ -51,7 +51,7 @@ async function started() {
 }
 
 async function testExample() {
-    const drawn = ['.lines', 'path.dots'].every(name => /^M.*/.test(within(name).getAttribute('d')));
+    const drawn = ['.lines path', '.dots path'].every(name => /^M.*/.test(within(name)?.getAttribute('d')));
     check('the example is drawn', drawn && marks('.areas path').length === 3, within('svg').outerHTML.slice(0, 500));
     check('its headers are listed', marks('#headers div').length === 8, marks('#headers div'));
     check('kinds are told apart', /polygon 1 .*multipoint 2 /.test(textOf('#legend')), textOf('#legend'));
@@ -59,11 +59,11 @@ async function testExample() {
     within('#headers div[data-line="0"]').click();
     await chosen;
     await next(within('svg'), 'drawn');
-    check('a header leads to the picture', /Z$/.test(within('.chosen.area').getAttribute('d')));
+    check('a header leads to the picture', /Z$/.test(within('.chosen.area path').getAttribute('d')));
     check('a header leads to its bytes', marks('#bytes mark').length > 100, marks('#bytes mark').length);
     check('a header leads to its rows', marks('#table .chosen').length === 4, marks('#table .chosen'));
     const svg = within('svg').getBoundingClientRect(), seen = next(frame.contentDocument, 'chosen');
-    const [, x, y] = /^M(\S+) (\S+?)h0/.exec(within('path.dots').getAttribute('d'));
+    const [, x, y] = /^M(\S+) (\S+?)h0/.exec(within('.dots path').getAttribute('d'));
     const { PointerEvent } = frame.contentWindow;
     const words = { bubbles: true, clientX: svg.left + Number(x), clientY: svg.top + Number(y), pointerId: 1 };
     within('svg').setPointerCapture = () => {};
@@ -107,6 +107,18 @@ async function testLarge() {
     const took = Math.round(performance.now() - start), megabytes = (blobs.length / 1e6).toFixed(1);
     const name = `${megabytes} MB are shown in ${took} ms, and the page answers within ${Math.round(longest)} ms`;
     check(name, longest < 1500 && blobs.length > 1e7);
+    const scrolled = Math.round(await scrolls());
+    check(`the next frames of the page take ${scrolled} ms`, scrolled < 2 * SOON);
+}
+
+/** How long it takes to scroll in some frames. */
+async function scrolls() {
+    const start = performance.now();
+    for (let frames = 0; frames < 5; frames++) {
+        within('#table').scrollTop += 50;
+        await new Promise(resolve => frame.contentWindow.requestAnimationFrame(resolve));
+    }
+    return performance.now() - start;
 }
 
 /** Waits until something holds, for some seconds. */
