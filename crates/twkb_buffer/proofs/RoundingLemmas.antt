@@ -511,7 +511,8 @@ rounds_to {factor = factor} {divisor = divisor} {numbers = numbers} {count = cou
       rounded = before.rounded;
       left = before.left;
       stopped = λ number next.
-          subst (λ (n : ℕ). FindsUnit factor divisor n None) (get_or_from_slice_get numbers count number 0 next) refused;
+          subst (λ (n : ℕ). FindsUnit factor divisor n None)
+          (get_or_from_slice_get numbers count number 0 next) refused;
     }
 
 -- no number is left

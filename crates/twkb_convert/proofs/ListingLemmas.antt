@@ -454,7 +454,8 @@ module _ {R W : Type 0} {read : Ghosts R} {layout : Layout} {contents : W → Op
         no_later = refl;
         none_left = refl;
         all = consumes_all (rest_of from) (rest_of mid) sent.bytes sent.used.consumed ends.empty;
-        ended = still_known (rest_of from) (rest_of mid) sent.bytes (IsAtEnd (told_of to)) sent.used.consumed ends.ended;
+        ended = still_known (rest_of from) (rest_of mid) sent.bytes (IsAtEnd (told_of to)) sent.used.consumed
+            ends.ended;
         no_read = refl;
       })
 

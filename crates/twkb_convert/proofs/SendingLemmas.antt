@@ -489,7 +489,8 @@ module _ {R W : Type 0} {style : Style} {l : Allowance} {contents : W → Option
         record {
           packed = record {
             table = ends.table;
-            appends = subst (λ b. Appends (contents (device_of writer)) (contents (device_of written)) b) stream appended;
+            appends = subst (λ b. Appends (contents (device_of writer)) (contents (device_of written)) b)
+                stream appended;
             count = ap (λ (r : Report). r.geometries) same ∙ s.count ∙ ap length (sym ends.same);
             bytes = (let more = s.leaves.sends.sent in let total = ap (λ (r : Report). r.bytes) same in
                 omega (arith, total, more, none, ap length stream));
@@ -506,7 +507,8 @@ module _ {R W : Type 0} {style : Style} {l : Allowance} {contents : W → Option
     pub stopped_packing : (fault : ConvertFault) → report ≡ Err fault
         → StoppedPacking style l remaining contents reader writer fault read written
     stopped_packing fault is =
-        let (stops, same) = reports_err sent.geometries (sent_of new) fault finishes.answer (sym is ∙ finishes.reports) in
+        let (stops, same) = reports_err sent.geometries (sent_of new) fault finishes.answer
+        (sym is ∙ finishes.reports) in
         let (explains, device) = subst (Tells style l (remaining (device_of reader)) (bytes_given read) sent.work
         s.part.whole s.part.later s.part.front failed flushed.0) stops told in
         record {
