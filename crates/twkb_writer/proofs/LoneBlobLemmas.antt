@@ -29,8 +29,7 @@ use Rattle.twkb_writer.specs.Sizes.{entry_of}
 use Rattle.twkb_writer.specs.Totals.{blank, entry_for}
 use Rattle.twkb_writer.proofs.TreeBytes.{type_is, rows_spell}
 use Rattle.twkb_writer.proofs.MeasuringParts.{length-number}
-use Rattle.twkb_writer.proofs.MeasuringEntries.{entry_is}
-use Rattle.twkb_writer.proofs.MeasuringTrees.{simple_measured}
+use Rattle.twkb_writer.proofs.MeasuringTrees.{entry_is, simple_measured}
 
 -- ==== The bytes of the blob of a point.
 

@@ -1,6 +1,6 @@
 use Rattle.std.proofs.Common.{rules, w8, SFits, to_z-of_z}
 use Rattle.twkb_writer.proofs.MeasuringPass.{all_points, sizes_of_one}
-use Rattle.twkb_writer.proofs.WalkLemmas.{points_within}
+use Rattle.twkb_writer.proofs.BelowLemmas.{points_within}
 use Rattle.twkb_writer.proofs.lone_row.row_entry.Goals as goal
 
 pub take_points-points-requires-clause-within : goal.take_points-points-requires-clause-within

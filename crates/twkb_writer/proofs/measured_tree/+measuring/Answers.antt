@@ -3,8 +3,8 @@ use Rattle.twkb_tree.specs.Rows.{ring_rows, rows_below, rows_with}
 use Rattle.twkb_tree.specs.Size.{member_smaller}
 use Rattle.twkb_tree.specs.Tree.{multi_point, multi_line, multi_polygon}
 use Rattle.twkb_tree.proofs.MemberLemmas.{under_shape}
-use Rattle.twkb_writer.proofs.AddingLemmas.{adds_same, awaits_same, each_none, each_awaits, each_more, each_all}
-use Rattle.twkb_writer.proofs.AddingLemmas.{geometry_shallow, under_awaits, own_awaits, geometry_added, members_rows}
+use Rattle.twkb_writer.proofs.MeasuringPass.{adds_same, awaits_same, each_none, each_awaits, each_more, each_all}
+use Rattle.twkb_writer.proofs.MeasuringPass.{geometry_shallow, under_awaits, own_awaits, geometry_added, members_rows}
 use Rattle.twkb_writer.proofs.measured_tree.+measuring.Goals as goal
 
 pub add_geometry-overflow_add-below : goal.add_geometry-overflow_add-below

@@ -1,6 +1,6 @@
 -- The rows of the components from the place on are added.
 use Rattle.twkb_writer.specs.MeasuredTree.{Adds, part_row}
-use Rattle.twkb_writer.proofs.AddingLemmas.{rows_from}
+use Rattle.twkb_writer.proofs.MeasuringPass.{rows_from}
 use Rattle.twkb_writer.proofs.measured_tree.add_each.Given as goal
 
 abbrev pub invariant-loop-index : goal.invariant-loop-index

@@ -1,4 +1,4 @@
-use Rattle.twkb_writer.proofs.AddingLemmas.{awaits_all, blob_is}
+use Rattle.twkb_writer.proofs.MeasuringPass.{awaits_all, blob_is}
 use Rattle.twkb_writer.proofs.measured_tree.measure.Goals as goal
 
 pub add_geometry-requires : goal.add_geometry-requires

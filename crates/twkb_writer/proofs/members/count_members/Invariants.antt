@@ -1,7 +1,7 @@
 use Rattle.std.proofs.Common.{◌≡◌, ◌+◌, ◌-◌, ◌≤◌, length, drop}
 use Rattle.twkb_writer.specs.Bytes.{members_below}
 use Rattle.twkb_writer.specs.Reads.{Reads}
-use Rattle.twkb_writer.proofs.WalkLemmas.{At}
+use Rattle.twkb_writer.proofs.BelowLemmas.{At}
 use Rattle.twkb_writer.proofs.members.count_members.Given as goal
 
 abbrev pub invariant-loop-child : goal.invariant-loop-child

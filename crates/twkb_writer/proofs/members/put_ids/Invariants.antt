@@ -2,7 +2,7 @@ use Rattle.std.proofs.Common.{◌≡◌, ℕ, ◌+◌, ◌-◌, ◌≤◌, lengt
 use Rattle.twkb_writer.specs.Bytes.{members_below, ids_bytes}
 use Rattle.twkb_writer.specs.Putting.{Progress}
 use Rattle.twkb_writer.specs.Reads.{Reads}
-use Rattle.twkb_writer.proofs.WalkLemmas.{At}
+use Rattle.twkb_writer.proofs.BelowLemmas.{At}
 use Rattle.twkb_writer.proofs.members.put_ids.Given as goal
 
 abbrev pub invariant-loop-child : goal.invariant-loop-child

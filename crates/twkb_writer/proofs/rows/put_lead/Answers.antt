@@ -1,7 +1,7 @@
 use Rattle.std.proofs.Common.{◌∙◌, ap, rules, w8, List, get_or}
 use Rattle.std.proofs.lemmas.Int.{to_z-of_z}
 use Rattle.twkb_writer.proofs.PutLemmas.{put_join}
-use Rattle.twkb_writer.proofs.WalkLemmas.{own_at, room_here}
+use Rattle.twkb_writer.proofs.BelowLemmas.{own_at, room_here}
 use mir.Val.{SFits}
 use Rattle.twkb_writer.specs.declared.sizes.Entry.{Entry}
 use Rattle.twkb_writer.proofs.rows.put_lead.Goals as goal

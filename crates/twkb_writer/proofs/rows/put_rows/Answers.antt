@@ -4,8 +4,8 @@ use Rattle.twkb_writer.specs.Bytes.{members_below, rows_bytes}
 use Rattle.twkb_writer.proofs.MeasuringSteps.{flat_measurable}
 use Rattle.twkb_writer.proofs.PutLemmas.{begun, step, finished, given_up}
 use Rattle.twkb_writer.proofs.ReadLemmas.{reads_none, reads_join, reads_row, one_node, at_most}
-use Rattle.twkb_writer.proofs.WalkLemmas.{rows_step, entries_step, walks_step, points_step, points_within}
-use Rattle.twkb_writer.proofs.WalkLemmas.{next_rows, walks_twice}
+use Rattle.twkb_writer.proofs.BelowLemmas.{rows_step, entries_step, walks_step, points_step, points_within}
+use Rattle.twkb_writer.proofs.BelowLemmas.{next_rows, walks_twice}
 use Rattle.twkb_writer.proofs.rows.put_rows.Goals as goal
 
 pub loop-index-init : goal.loop-index-init

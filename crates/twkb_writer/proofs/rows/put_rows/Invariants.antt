@@ -4,7 +4,7 @@ use Rattle.twkb_tree.specs.Rows.{row_points}
 use Rattle.twkb_writer.specs.Bytes.{rows_bytes, entries_in}
 use Rattle.twkb_writer.specs.Putting.{Progress}
 use Rattle.twkb_writer.specs.Reads.{Reads}
-use Rattle.twkb_writer.proofs.WalkLemmas.{walks}
+use Rattle.twkb_writer.proofs.BelowLemmas.{walks}
 use Rattle.twkb_writer.proofs.rows.put_rows.Given as goal
 
 abbrev pub invariant-loop-index : goal.invariant-loop-index

@@ -1,6 +1,6 @@
 use Rattle.std.proofs.Common.{[], ◌∷◌}
 use Rattle.twkb_flat.specs.Rows.{row_with}
-use Rattle.twkb_writer.proofs.AddingLemmas.{awaits_first, adds_both, rings_added}
+use Rattle.twkb_writer.proofs.MeasuringPass.{awaits_first, adds_both, rings_added}
 use Rattle.twkb_writer.proofs.measured_tree.LinesMeasuredComponent.add_to.Goals as goal
 
 pub add-requires : goal.add-requires
