@@ -15,7 +15,6 @@ use Rattle.twkb_tree.specs.Admits.{steps_to, parent, first_child, fits, points_f
 use Rattle.twkb_tree.specs.Limits.{Allowance}
 use Rattle.twkb_tree.specs.Open.{AreOpen, open_count, open_parent, row_of, child_of, count_at, open_refusal}
 use Rattle.twkb_tree.specs.Refusal.{checks_under, first_failed, are_in_range, refusal}
-use Rattle.twkb_tree.specs.declared.row_checks.Refusal.{Refusal}
 use Rattle.twkb_tree.specs.declared.row_checks.Refusal.TheVariants.{BadPlace, CoordinateRange}
 use Rattle.twkb_tree.specs.RowLists.{AreRowsOfOne, AreValidRowsOfOne}
 use Rattle.twkb_tree.specs.Rows.{Row, row_points, rows, whole_row}

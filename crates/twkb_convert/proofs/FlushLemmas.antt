@@ -1,5 +1,5 @@
 -- What an output and its devices are left like, before and after the flush.
-use Rattle.std.proofs.Common.{◌≤◌, ◌∷◌, append_assoc}
+use Rattle.std.proofs.Common.{◌∷◌, append_assoc}
 use Rattle.std.proofs.KnownBytes.{Consumes-trans}
 use Rattle.std.specs.Prelude.{OnOk}
 use Rattle.twkb_io.specs.declared.TheConstants.{MAX_BYTES}

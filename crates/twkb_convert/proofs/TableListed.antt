@@ -1,7 +1,7 @@
 -- From a listing of located blobs as a table to the result of unpacking.
 use Rattle.twkb_io.specs.declared.TheConstants.{MAX_BYTES}
-use Rattle.twkb_convert.proofs.Prelude.{IfSome, IfOk, IfErr, Result, Ok, Err, ◌≡◌, ◌∙◌, ◌<◌, ℕ, List, ◌++◌}
-use Rattle.twkb_convert.proofs.Prelude.{Option, Some, None, length, ap, sym, subst, inl, inr, Appends, map-append}
+use Rattle.twkb_convert.proofs.Prelude.{IfSome, ◌≡◌, ◌∙◌, ◌<◌, ℕ, List, ◌++◌}
+use Rattle.twkb_convert.proofs.Prelude.{Option, Some, None, length, ap, sym, subst, inl, inr, map-append}
 use Rattle.twkb_convert.proofs.Prelude.{length-map, Tap, device_of, Tree, Allowance, Stream, Located, AtMostOneCut}
 use Rattle.twkb_convert.proofs.Prelude.{table_text, LocatedStream, geometries_of, listing_text, HoldsWhole, Report}
 use Rattle.twkb_convert.proofs.Prelude.{ConvertFault, Cause}

@@ -1,7 +1,7 @@
 -- Prefixes of items, each of which can be completed.
 use Rattle.std.proofs.Common.{Bool, true, false, ◌≡◌, ℕ, zero, suc, ◌+◌, ◌-◌, List, [], ◌∷◌, ◌++◌, length, refl, ap}
 use Rattle.std.proofs.Common.{sym, subst, Some, None, arith, ◌∙◌, append_assoc}
-use Rattle.std.specs.Prelude.{ℤ, ⊤}
+use Rattle.std.specs.Prelude.{ℤ}
 use Rattle.twkb_num.specs.Varint.{IsVarint}
 use Rattle.twkb_num.proofs.VarintLemmas.{one_varint}
 use Rattle.twkb_tree.specs.Tree.{Tree, Trees, Ids, simple, collection, IsTree}

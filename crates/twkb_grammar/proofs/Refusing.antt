@@ -1,7 +1,7 @@
 -- A refusal of the machine is a fault, and without one a part can go on to a valid geometry.
 use Rattle.std.proofs.Common.{true, ◌≡◌, ℕ, ◌+◌, ◌≤◌, List, [], ◌∷◌, ◌++◌, length, refl, ap, sym, ◌∙◌, subst}
 use Rattle.std.proofs.Common.{append_assoc, Some, arith, Bool, false, map}
-use Rattle.std.specs.Prelude.{⊤, sum_by, ◌+ℤ◌, ℤ, flat_map}
+use Rattle.std.specs.Prelude.{sum_by, ◌+ℤ◌, ℤ}
 use Rattle.std.specs.List.{AllByRecursion}
 use Rattle.std.proofs.lemmas.Int.{ints}
 use Rattle.twkb_num.specs.Zigzag.{unzigzag_of}

@@ -19,7 +19,7 @@ use Rattle.twkb_grammar.specs.Fault.{announced_points, announced_nodes, nodes_of
 use Rattle.twkb_grammar.specs.PlainReader.{Cut, with_byte, varint_at, in_range, too_deep, unless, objection, cut}
 use Rattle.twkb_grammar.specs.PlainReader.{Answer, RefusedAt, after_objection, after_cut}
 use Rattle.twkb_grammar.specs.Roles.{Counted, Geometries, Item, Role, Header}
-use Rattle.twkb_grammar.specs.Roles.{Metadata, Extended, Count, X, Y, End, Size, Box, Id, Spells}
+use Rattle.twkb_grammar.specs.Roles.{Metadata, Extended, Count, X, Y, End, Spells}
 use Rattle.twkb_grammar.specs.Blob.{IsExact}
 use Rattle.twkb_grammar.specs.Machine.{Sums}
 use Rattle.twkb_grammar.proofs.Dead.{Allowed, run_ends, not_long, number_not}

@@ -2,24 +2,23 @@
 use Rattle.std.proofs.Common.{Bool, true, false, ◌≡◌, ℕ, ◌+◌, List, [], ◌∷◌, ◌++◌, map, length, refl, ap, ◌∙◌}
 use Rattle.std.proofs.Common.{Some, None, arith, suc, ◌<◌, sym, subst, length-append}
 use Rattle.std.proofs.lemmas.List.Sums.{sum_by-cons}
-use Rattle.std.specs.Prelude.{ℤ, flat_map, sum_by, ⊤, ◌+ℤ◌}
+use Rattle.std.specs.Prelude.{ℤ, flat_map, sum_by, ⊤}
 use Rattle.std.proofs.lemmas.Bool.{false≢true}
 use Rattle.std.proofs.lemmas.List.Concat.{length-flat_map}
 use Rattle.std.specs.List.{AllByRecursion}
-use Rattle.twkb_num.specs.Zigzag.{unzigzag_of}
 use Rattle.twkb_points.specs.Point.{Point, origin}
 use Rattle.twkb_tree.specs.Tree.{Ids, Simple, point, line, polygon, multi_point, multi_line, multi_polygon, Tree}
 use Rattle.twkb_tree.specs.Tree.{simple, collection, Trees, end, ◌▷◌, count, HasIds, IdsFit, IsTree, AreTrees, nodes}
 use Rattle.twkb_tree.specs.Tree.{nodes_all, nodes_in, area_nodes, flat, flat_all, points_in, flatten}
 use Rattle.twkb_grammar.specs.Bits.{bit}
-use Rattle.twkb_grammar.specs.Roles.{Item, Role, Header, Metadata, Extended, Size, Box, Count, Counted, Id, X, Y, End}
-use Rattle.twkb_grammar.specs.Roles.{AreFields, HaveRoles, where_set, Geometries, join, item}
+use Rattle.twkb_grammar.specs.Roles.{Item, Role, Header, Metadata, Count, Counted, Id}
+use Rattle.twkb_grammar.specs.Roles.{AreFields, Geometries}
 use Rattle.twkb_grammar.specs.Items.{Slot, OfCount, OfId, OfPoint, id_slots, declared, end_item, Flags, Framed}
 use Rattle.twkb_grammar.specs.Items.{header_byte, filled, fields, Agrees, flags, flags_all, BodyAt, Follow, Items}
 use Rattle.twkb_grammar.specs.Items.{ItemsOfAll, kind_of, id_fields, slots, run_of, rings_of}
 use Rattle.twkb_grammar.specs.Machine.{SimpleKind, CollectionKind, kind_number, Head, Frame, AtHeader, AtEnd, AtCount}
 use Rattle.twkb_grammar.specs.Machine.{ManyGeometries, empty_of, wanting, ended, snoc, members_begin, Sums, Stack, Runs}
-use Rattle.twkb_grammar.specs.Machine.{Kind, added, sums_after}
+use Rattle.twkb_grammar.specs.Machine.{Kind, sums_after}
 use Rattle.twkb_grammar.specs.Fault.{nodes_by, points_by, nodes_of, points_of}
 use Rattle.twkb_grammar.proofs.Bodies.{steps, fields_are, form_of, shape_run, first_run}
 use Rattle.twkb_grammar.proofs.Bodies.{finish, SaysIds, Runs-append, head}
