@@ -81,8 +81,8 @@ impl Engine {
     // Takes a blob of a single point at the start of the piece: replaces the form's rows by the
     // point's, notes its span, goes to the next blob, and returns how many bytes the blob has; 0,
     // with no change, if `exact_point` gives none or the limits allow no point. No blob may be
-    // begun. Takes memory.
-    #[inline(always)]
+    // begun. Takes memory. Not inlined, so that its callers have more registers.
+    #[inline(never)]
     fn take_root_point<S: SpanNotes>(
         &mut self,
         flat: &mut Flat,
