@@ -12,8 +12,8 @@ abbrev pub are_more : List Tree → Bool
 are_more [] = false
 are_more (g ∷ later) = true
 
--- There was room for the first geometries, of which this is the number, and not for the first of
--- those after them, if there are some: this is whether there are.
+-- There was room for the geometries in `given`, whose number is `done`, and not for the first of
+-- those in `later`, if there are any; `full` is whether there are.
 pub record Fit (lacks : List Tree → Type 0) (given later : List Tree) (full : Bool)
     (done : ℕ) : Type 0 where
   pub stops : StopsBefore lacks given later

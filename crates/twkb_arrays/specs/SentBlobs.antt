@@ -15,8 +15,8 @@ pub record IsStreamIn (style : Style) (old : List ℕ) (gs : List Tree) (new : L
   pub bytes_are : new ≡ canonical_stream style gs ++ drop (length (canonical_stream style gs)) old
   pub room : length (canonical_stream style gs) ≤ length old
 
--- Of the geometries whose blobs were made so far the first ones were written into the slice, and the others were
--- counted, since there is no room for the first of these.
+-- Of the geometries whose blobs were made so far, those in `given` were written into the slice.
+-- Those in `later` come after them, and were only counted: there is no room for the first of these.
 pub record HasSent (style : Style) (old : List ℕ) (given later : List Tree) (new : List ℕ) (sent : Sent) : Type 0 where
   pub filled : IsStreamIn style old given new
   pub fit : Fit (LacksBytes style old) given later sent.full sent.done
@@ -33,7 +33,8 @@ abbrev pub SendsOne : Style → List ℕ → List Tree → Tree → List ℕ →
 SendsOne style old gs g new sent = (given later : List Tree) × (given ++ later ≡ gs ++ g ∷ [])
     × HasSent style old given later new sent
 
--- if the blob is that of a geometry, it is the one more after the blobs made so far
+-- if the blob is that of a geometry, then whatever blobs were made before, it is made after them,
+-- and all are written or counted
 abbrev pub Sends : List ℕ → List ℕ → Sent → List ℕ → Sent → Type 0
 Sends blob old before new after = (style : Style) (start : List ℕ) (given later : List Tree)
     (g : Tree) → HasSent style start given later old before → blob ≡ canonical_blob style g

@@ -16,8 +16,8 @@ pub record IsFilled (old_rows : List BufferRow) (old_points : List BufferPoint) 
   pub points_are : new_points ≡ array_points gs ++ drop (length (row_points (rows_of gs))) old_points
   pub room : HasRoom old_rows old_points gs
 
--- Of the geometries read so far the first ones were taken into the arrays, and the others were
--- counted, since the first of these has no room.
+-- Of the geometries read so far, those in `given` were taken into the arrays. Those in `later` come
+-- after them, and were only counted: there is no room for the first of these.
 pub record HasTaken (old_rows : List BufferRow) (old_points : List BufferPoint)
     (given later : List Tree) (new_rows : List BufferRow) (new_points : List BufferPoint)
     (taken : Taken) : Type 0 where

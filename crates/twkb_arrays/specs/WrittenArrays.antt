@@ -51,7 +51,8 @@ pub record BeginArrays (l : Allowance) (gs : List Tree) (in_rows : List BufferRo
 
 -- After the rows of complete geometries and of the open one comes a row that is refused, at this
 -- place and for the reason with this number; if one of its points is out of range, the first such
--- point is at this index. No geometry is open if it is a root, and only then, but for the first row.
+-- point is at this index. No geometry is open if it is a root, and only then, but for the first
+-- row.
 pub record IsRefusedRow (l : Allowance) (gs : List Tree) (in_rows : List BufferRow)
     (in_points : List BufferPoint) (place number index : ℕ) : Type 0 where
   pub begun : List Row
@@ -105,14 +106,14 @@ pub record IsWriting (l : Allowance) (style : Style) (start : List ℕ) (in_rows
   pub read : AreRead l (given ++ later) writer.open_geometry in_rows in_points
   pub sent : HasSent style start given later in_output writer.sent
 
--- whatever was written before, it is still so
+-- whatever rows and points the old writer has read, the new writer has read the same
 abbrev pub StaysWriting : Style → List ℕ → Writer → List ℕ → Writer → Type 0
 StaysWriting style before old after new =
     (l : Allowance) (start : List ℕ) (in_rows : List BufferRow) (in_points : List BufferPoint)
     → IsWriting l style start in_rows in_points before old
     → IsWriting l style start in_rows in_points after new
 
--- whatever was read before, these rows and points were read after it
+-- whatever rows and points the old writer has read, the new writer has read these after them
 abbrev pub ReadsMore : Allowance → Style → List BufferRow → List BufferPoint → List ℕ → Writer
     → List ℕ → Writer → Type 0
 ReadsMore l style rows points before old after new =
@@ -126,7 +127,8 @@ stopped_at place ahead stop.Memory = stop.Memory
 stopped_at place ahead (stop.Refused number) =
     stop.Refused (record { place = place; number = number; index = index_outside number ahead })
 
--- The writing of arrays stopped after complete geometries of which the first were written.
+-- The writing of arrays stopped for this reason, after complete geometries of which the first were
+-- written.
 abbrev pub StopsWriting : Allowance → Style → List ℕ → List BufferRow → List BufferPoint → List ℕ
     → Sent → Stop RefusedAt → Type 0
 StopsWriting l style start in_rows in_points in_output sent why =
@@ -142,8 +144,8 @@ write_outcome_of full (Ok done) = unless_full full (0, 0, 0)
 write_outcome_of full (Err stop.Memory) = (4, 0, 0)
 write_outcome_of full (Err (stop.Refused at)) = unless_full full (1, at.number, at.place)
 
--- the index of the point for which a row was refused, of a writing that ended like this, given whether
--- there was too little room for a blob
+-- the index of the point for which a row was refused, of a writing that ended like this, given
+-- whether there was too little room for a blob
 abbrev pub write_index_of : {A : Type 0} → Bool → Result A (Stop RefusedAt) → ℕ
 write_index_of full (Ok done) = 0
 write_index_of full (Err stop.Memory) = 0

@@ -147,9 +147,9 @@ pub(crate) fn index_outside(number: u32, ahead: &[BufferPoint]) -> usize
     }
 }
 
-// The first reason why a row may not have these points at this place; `None` if it may, or if the
-// only reason is that one is out of range. The points themselves are only looked at if their number
-// is wrong.
+// The first reason why a row may not have these points at this place, within the limits; `None` if
+// it may, or if the only reason is that a point is out of range. Points are looked at only if their
+// number is refused.
 #[inline(always)]
 fn refused_points(
     limits: &Limits,
@@ -175,8 +175,8 @@ fn refused_points(
     }
 }
 
-// The first reason why a row with these points may not come at this place; `None` if it may, or if
-// the only reason is that a point is out of range.
+// The first reason why a row with these points may not come at this place, within the limits;
+// `None` if it may, or if the only reason is that a point is out of range.
 #[inline(always)]
 pub(crate) fn refused_row(
     limits: &Limits,

@@ -1,5 +1,6 @@
 //! Laws of streams that are read into arrays and written from them, each stated as the contract of
-//! an empty function.
+//! an empty function. The calls that a law names have the same limits, and the geometries that it
+//! names are within them.
 ghost use Rattle.std.specs.Prelude.{◌≡◌, ◌≢◌, ◌≤◌, ◌⊎◌, ℕ, List, ◌++◌, IfSome, Some, length, reverse, take};
 ghost use Rattle.twkb_io.specs.declared.TheConstants.{MAX_BYTES};
 ghost use Rattle.twkb_tree.specs.Tree.{IsId, Tree};

@@ -60,7 +60,7 @@ impl Taken {
     }
 }
 
-// Whether so many rows and so many points are no more than the room for each.
+// Whether `rows` is at most `row_room`, and `points` at most `point_room`.
 #[inline(always)]
 fn has_room(rows: usize, points: usize, row_room: usize, point_room: usize) -> bool
     ensures has { result ≡ true → (rows ≤ row_room) × (points ≤ point_room) }
@@ -97,10 +97,9 @@ fn put_from(
     put_form(form, rows, points);
 }
 
-// Writes the rows and points of a geometry, of which a form has all rows, and one at least, after
-// those in the arrays, if both have room for it and had for all geometries before it; else sets
-// `full`. Counts them in both cases. The arrays must be those that `taken` counts the geometries
-// of.
+// Writes the rows of a form, which must have one at least, and their points after those in the
+// arrays, if both arrays have room for them and had for all geometries before; else sets `full`.
+// Counts them in both cases. `taken` must be what was taken into these arrays.
 pub(crate) fn take_geometry(
     form: &Rows,
     row_array: &mut [BufferRow],

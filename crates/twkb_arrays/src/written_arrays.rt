@@ -61,9 +61,10 @@ impl Writer {
         }
     }
 
-    // Ends the open geometry, if there is one: makes its blob, writes that if the output has room
-    // for it and had for all before, and drops the rows. The output must be that of the earlier
-    // blobs. An `Err` is want of memory, and changes nothing but `self.room`.
+    // Ends the open geometry, if there is one: makes its blob, writes it if the output has room for
+    // it and had for all before, or else only counts it, and drops the rows. The output must be the
+    // one that has the earlier blobs. An `Err` is want of memory, and changes nothing but
+    // `self.room`.
     #[inline(always)]
     fn end_geometry(&mut self, style: Style, output: &mut [u8]) -> Result<(), AllocError>
         requires { IsSentWithin output.old self.old.sent }
@@ -82,8 +83,7 @@ impl Writer {
         Ok(())
     }
 
-    // Ends the open geometry, as `end_geometry` does, if the row is a root, which then begins the
-    // next one; else changes nothing.
+    // Ends the open geometry, as `end_geometry` does, if the row is a root; else changes nothing.
     #[inline(always)]
     fn end_before(
         &mut self,
@@ -107,9 +107,9 @@ impl Writer {
         self.end_geometry(style, output)
     }
 
-    // Reads the first of the rows ahead, which must be one at least, with as many of the points
-    // ahead as it names, and returns their number. If it is a root, the open geometry ends. If it
-    // is known to be a whole geometry, its blob is written at once; else it is appended to the open
+    // Reads the first of `rows`, of which there must be one, with as many of the points ahead as it
+    // names, and returns how many. If it is a root, first ends the open geometry. If it is known to
+    // be a whole geometry, its blob is at once written, or counted; else it is appended to the open
     // geometry. An `Err` is want of memory, or the number of the reason to refuse the row.
     #[inline(always)]
     fn write_row(
@@ -271,14 +271,10 @@ fn reported(sent: &Sent, answer: Result<(), Stop<RefusedAt>>) -> BufferReport
     }
 }
 
-/// Writes rows and points in arrays as a stream of canonical blobs in a style: the rows of one
-/// geometry after another as a table has them (blobs: TWKB; rows: profile), each with as many of
-/// the next points as it names. A row that is refused, as one past the limits is, stops it after
-/// the blobs of the complete geometries before it; so do points that are left over, which are
-/// refused at the number of rows, and before the blob of the last geometry. A blob for which the
-/// output has too little room is not written, nor is any after it, but the bytes of all are
-/// counted. Bytes of the output after what is written are unchanged. Takes memory for one geometry
-/// and its blob.
+/// Writes rows, in a table's order (profile), and their points as canonical blobs in a style, one
+/// for each geometry. Stops at a refused row, after the blobs of the geometries complete before it,
+/// or at the end if points are left over, before the last blob. If the output lacks room for a
+/// blob, it and later ones are only counted. Takes memory for one geometry and its blob.
 pub fn write_arrays(
     alloc: Global,
     rows: &[BufferRow],

@@ -39,8 +39,8 @@ fn put_line(span: &Span, text: &mut Vec<u8>) -> Result<(), AllocError>
     text.extend_from_slice(line.as_slice())
 }
 
-// Appends a precision as a decimal, and a space, to a line, which must have room for 21 bytes. Few
-// are negative.
+// Appends a precision as a decimal, and a space, to a line, which must have room for 21 bytes. Most
+// precisions are not negative, and are appended as counts are.
 #[inline(always)]
 fn push_precision(precision: i8, line: &mut Piece<128>)
     requires room { length line.old + 21 ≤ 128 }

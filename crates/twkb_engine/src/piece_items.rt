@@ -247,8 +247,8 @@ impl Engine {
 
     /// Takes bytes up to the end of a blob, else all; returns how many, and whether a blob ends
     /// with them. `flat` must be empty when a blob begins, so clear it after each, and else as the
-    /// last call left it. `spans` notes the blob's spans. After an `Err`, why what is at `offset`
-    /// is refused or that memory was, nothing more can be fed. Takes memory for what is read.
+    /// last call left it. `spans` notes the blob's spans. An `Err` says why the item at `offset` is
+    /// refused, or that memory is; nothing more can be fed then. Takes memory for what is read.
     #[inline(always)]
     pub fn feed<S: SpanNotes>(
         &mut self,

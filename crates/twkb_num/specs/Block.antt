@@ -37,7 +37,7 @@ pub record AreMarks (radix most : ℕ) (units : List ℕ) (m : Marks) : Type 0 w
   pub zeros : m.zeros ≡ mask_l (map (λ u. nat_eq u 0) units)
   pub bad : m.bad ≡ mask_l (map (λ u. nat_lt most u) units)
 
--- each word has no bits from `bound` on
+-- each of the three words is below `bound`
 pub record AreBelow (bound : ℕ) (m : Marks) : Type 0 where
   pub ends : m.ends < bound
   pub zeros : m.zeros < bound

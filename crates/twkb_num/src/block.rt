@@ -40,7 +40,8 @@ pub(crate) struct Marks {
     pub(crate) bad: u64,
 }
 
-// Marks the sixteen bytes from `at` on, as units of the alphabet.
+// Marks the sixteen bytes from `at` on, which must be there, as units of the alphabet; each word of
+// the marks is below 2^16.
 #[inline(always)]
 fn sixteen(bytes: &[u8], at: usize, alphabet: Alphabet) -> Marks
     requires long { at + 16 ≤ length bytes.now }
@@ -56,7 +57,8 @@ fn sixteen(bytes: &[u8], at: usize, alphabet: Alphabet) -> Marks
     }
 }
 
-// Marks the 32 bytes from `at` on, as units of the alphabet.
+// Marks the 32 bytes from `at` on, which must be there, as units of the alphabet; each word of the
+// marks is below 2^32.
 #[inline(always)]
 fn thirty_two(bytes: &[u8], at: usize, alphabet: Alphabet) -> Marks
     requires long { at + 32 ≤ length bytes.now }

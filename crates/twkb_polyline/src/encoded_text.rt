@@ -64,8 +64,8 @@ fn put_points(points: &[Pt], text: &mut Vec<u8>) -> Result<(), AllocError>
 }
 
 // Appends the characters of pairs of points to a text, each point as its step from the one before
-// it, the first from the cursor, and moves the cursor to the last point. If memory is refused, only
-// a prefix may be appended.
+// it, the first from the cursor, and moves the cursor to the last point. After an `Err` a prefix
+// may be appended, and nothing is known of the cursor. Takes memory.
 #[inline(always)]
 fn put_pairs(pairs: &[[Pt; 2]], cursor: &mut Cursor, text: &mut Vec<u8>) -> Result<(), AllocError>
     ensures appended { OnOk result (text.new.items ≡ text.old.items ++ polyline_from cursor.old (points_of pairs.now)) }

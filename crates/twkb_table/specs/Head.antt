@@ -24,8 +24,8 @@ abbrev pub JudgedAs : RowHead → Verdict → Type 0
 JudgedAs head v = JudgedByPoints head.limits
     (place_seen head.row_place) head.kind head.id head.precision head.text.now v
 
--- this holds of the verdict on a record: of the one that the points of its row give, or of a reason
--- found before them
+-- `Holds` is true of the verdict on a record: the one that the points of its row give, or else the
+-- reason found before them
 abbrev pub JudgedBy : (Verdict → Type 0) → Result RowHead RowReason → Type 0
 JudgedBy Holds (Ok head) = (v : Verdict) → JudgedAs head v → Holds v
 JudgedBy Holds (Err reason) = Holds (Refused reason)

@@ -12,15 +12,16 @@ use Rattle.twkb_table.specs.declared.reason.RowReason.{RowReason}
 use Rattle.twkb_table.specs.declared.table_fault.TableFault.{TableFault}
 use Rattle.twkb_table.specs.declared.table_fault.TableFault.TheVariants as fault
 
--- what reading a record shows
+-- what the result of reading a record says: one more record, the end of the text, or a fault of the
+-- source
 abbrev pub ReadsNext : {R : Type 0} → (R → Option (List ℕ)) → Reader (MutBor (Tap R))
     → Result Bool TableFault → Record → Reader (MutBor (Tap R)) → Type 0
 ReadsNext remaining old (Ok true) here new = Advances remaining old here new
 ReadsNext remaining old (Ok false) here new = Finishes remaining old
 ReadsNext remaining old (Err f) here new = f ≡ fault.Source
 
--- no record was read, or one whose number, if this many were read before, would be RECORD_CAP or
--- above
+-- why no record was counted after this many: none could be read, or one was read whose number would
+-- be RECORD_CAP or above
 abbrev pub MissesRecord : {R : Type 0} → (R → Option (List ℕ)) → Reader (MutBor (Tap R)) → ℕ
     → TableFault → Type 0
 MissesRecord {R} remaining old count f =
@@ -28,7 +29,8 @@ MissesRecord {R} remaining old count f =
     ⊎ ((f ≡ fault.TooManyRecords) × (RECORD_CAP ≤ count + 1)
     × ((here : Record) × (new : Reader (MutBor (Tap R))) × Advances remaining old here new))
 
--- what reading a record after the header shows, if this many records were read before
+-- what the result of reading a record after the header says, if this many records were read before:
+-- one more, the end of the text, or a fault
 abbrev pub ReadsRecord : {R : Type 0} → (R → Option (List ℕ)) → Reader (MutBor (Tap R)) → ℕ
     → Result Bool TableFault → Record → Reader (MutBor (Tap R)) → ℕ → Type 0
 ReadsRecord remaining old count (Ok true) here new counted =

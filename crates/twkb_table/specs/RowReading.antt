@@ -23,7 +23,7 @@ abbrev pub waiting : RowReader → List TableRow
 waiting reader = waiting_rows reader.state reader.points.items
 
 -- this is the verdict on the record after these rows of the last geometry, whatever rows come
--- before them; if there are none, no row comes before
+-- before them; if there are none of these rows, no row comes before the record
 abbrev pub JudgedAfter : Allowance → List TableRow → Record → Verdict → Type 0
 JudgedAfter l rows fields v =
     (earlier : List TableRow) → (rows ≡ [] → earlier ≡ []) → Judged l (reverse (earlier ++ rows))
@@ -55,18 +55,21 @@ pub record EndsBefore (old : RowReader) (before : List TableRow) (fields : Recor
   pub root : row.depth ≡ 0
   pub judged : JudgedAfter (limits_of old) before fields (Accepted row)
 
--- the record after these rows is refused, or there was no memory for its row
+-- the record after these rows is refused, or there was no memory for its row; the new reader is
+-- spent
 abbrev pub Refuses : RowReader → List TableRow → Record → Stop RowReason → RowReader → Type 0
 Refuses old before fields why new =
     IfRefused (λ reason. JudgedAfter (limits_of old) before fields (Refused reason)) why ×
     (new.state ≡ state.Spent)
 
--- what reading a record as a root shows, before the first row or after a point that waits
+-- what the result of reading a record as a root says, before the first row or after a point that
+-- waits: the root waits, or the record is refused
 abbrev pub ReadsRoot : RowReader → Record → Result (Unit {0}) (Stop RowReason) → RowReader → Type 0
 ReadsRoot old fields (Ok done) new = EndsBefore old (waiting old) fields new
 ReadsRoot old fields (Err why) new = Refuses old (waiting old) fields why new
 
--- what reading a record after rows of the same geometry shows
+-- what the result of reading a record after rows of a geometry says: one more row of it, the root
+-- of the next geometry, or a refusal
 abbrev pub ReadsRow : RowReader → List TableRow → Record → Result Bool (Stop RowReason) → RowReader
     → List TableRow → Type 0
 ReadsRow old before fields (Ok true) new after = GoesOn old before fields new after

@@ -38,8 +38,7 @@ HaveGiven l records given (root ∷ more) ended = (last : Tree) × Named l recor
     × (rows 0 last ≡ root ∷ more) × (ended ≡ false)
 
 -- What a reader of tables has read: its reader of `csv`, the number of records after the header,
--- and
--- its rows.
+-- and its rows.
 pub record Progress (R : Type 0) : Type 0 where
   pub source : Reader (MutBor (Tap R))
   pub number : ℕ
@@ -49,11 +48,11 @@ pub record Progress (R : Type 0) : Type 0 where
 abbrev pub progress : {R : Type 0} → TableReader R → Progress R
 progress reader = record { source = reader.reader; number = reader.number; rows = reader.rows }
 
--- whether the end of the table was reached
+-- whether the end of the table was reached, so that no root waits
 abbrev pub is_ended : {R : Type 0} → TableReader R → Bool
 is_ended reader = is_over reader.rows.state
 
--- whether a call returned an error
+-- whether a call returned an error, or is reading a header or a geometry
 abbrev pub is_spent : {R : Type 0} → TableReader R → Bool
 is_spent reader = is_stopped reader.rows.state
 
@@ -62,8 +61,9 @@ abbrev pub records_read : State → ℕ → ℕ
 records_read state.Fresh number = 0
 records_read _ number = number + 1
 
--- A reader with these limits read these records, fewer than RECORD_CAP, of a text known at the start,
--- and returned these geometries. They are all records of the text if the end was reached.
+-- A reader with these limits read these records, fewer than RECORD_CAP, of a text known at the
+-- start, and returned these geometries. They are all records of the text if the end was reached. No
+-- call returned an error.
 pub record StandsAt {R : Type 0} (l : Allowance) (remaining : R → Option (List ℕ))
     (told : Option (List ℕ)) (records : List Record) (given : List Tree) (now : Progress R) : Type 0
   where
@@ -74,7 +74,7 @@ pub record StandsAt {R : Type 0} (l : Allowance) (remaining : R → Option (List
     pub gave : HaveGiven l records given (waiting now.rows) (is_over now.rows.state)
     pub unspent : is_stopped now.rows.state ≡ false
 
--- this reader is such a reader
+-- a reader of tables has read these records, and returned these geometries, as in `StandsAt`
 abbrev pub StandsAfter : {R : Type 0} → Allowance → (R → Option (List ℕ)) → Option (List ℕ)
     → List Record → List Tree → TableReader R → Type 0
 StandsAfter l remaining told records given reader = StandsAt l remaining told records given
@@ -84,7 +84,7 @@ StandsAfter l remaining told records given reader = StandsAt l remaining told re
 abbrev pub IsOver : {R : Type 0} → TableReader R → Type 0
 IsOver reader = is_ended reader ≡ true
 
--- the next geometry is known to be a point, and no call returned an error
+-- the next geometry is known to be a point that is not empty: it waits
 abbrev pub HasPoint : {R : Type 0} → TableReader R → Type 0
 HasPoint reader = IsPoint (waiting reader.rows)
 
@@ -106,7 +106,7 @@ pub record GivesRows {R : Type 0} (l : Allowance) (remaining : R → Option (Lis
   pub rows : rows 0 geometry ≡ flat
   pub stands : StandsAt l remaining told seen (given ++ geometry ∷ []) now
 
--- the same of a reader
+-- `GivesRows` of a reader of tables
 abbrev pub GivesNext : {R : Type 0} → Allowance → (R → Option (List ℕ)) → Option (List ℕ)
     → List Record → List Tree → List Row → TableReader R → Type 0
 GivesNext l remaining told records given flat reader = GivesRows l remaining told records given flat
@@ -121,7 +121,7 @@ pub record GivesTree {R : Type 0} (l : Allowance) (remaining : R → Option (Lis
   pub begins : IfSome told (λ text. BeginWith text seen)
   pub stands : StandsAt l remaining told seen (given ++ geometry ∷ []) now
 
--- All records of the text name the geometries that were returned.
+-- All records of the text, which are those seen, name the geometries that were returned.
 pub record ReachesEnd {R : Type 0} (l : Allowance) (remaining : R → Option (List ℕ))
     (told : Option (List ℕ)) (records : List Record) (given : List Tree) (now : Progress R) : Type 0
   where
@@ -131,7 +131,7 @@ pub record ReachesEnd {R : Type 0} (l : Allowance) (remaining : R → Option (Li
     pub named : Named l seen given
     pub stands : StandsAt l remaining told seen given now
 
--- the same of a reader
+-- `ReachesEnd` of a reader of tables
 abbrev pub MeetsEnd : {R : Type 0} → Allowance → (R → Option (List ℕ)) → Option (List ℕ)
     → List Record → List Tree → TableReader R → Type 0
 MeetsEnd l remaining told records given reader = ReachesEnd l remaining told records given
@@ -170,8 +170,8 @@ Explains l told records given fault.Spent = ⊥
 
 -- ---- what a call shows, whatever the reader's state before it
 
--- P holds of the limits, the text, the records read and the geometries returned, for every state
--- the reader may be in
+-- `Holds` is true of the limits, the text, the records read and the geometries returned, for every
+-- state the reader may be in
 abbrev pub Wherever : {R : Type 0} → (R → Option (List ℕ)) → TableReader R
     → (Allowance → Option (List ℕ) → List Record → List Tree → Type 0) → Type 0
 Wherever remaining old Holds =
@@ -206,8 +206,7 @@ NameReading l records given (root ∷ more) =
     (last : Tree) × Named l records (given ++ last ∷ []) × (rows 0 last ≡ root ∷ more)
 
 -- The records seen, fewer than RECORD_CAP, name the geometries that were returned and one more,
--- which
--- has these rows so far.
+-- which has these rows so far; if there are no rows, its root was not read.
 pub record IsReading {R : Type 0} (l : Allowance) (remaining : R → Option (List ℕ))
     (told : Option (List ℕ)) (records : List Record) (given : List Tree) (so_far : List Row)
     (now : Progress R) : Type 0 where
@@ -219,7 +218,7 @@ pub record IsReading {R : Type 0} (l : Allowance) (remaining : R → Option (Lis
   pub limits : limits_of now.rows ≡ l
   pub named : NameReading l seen given so_far
 
--- The records seen name these geometries, and one more if a root waits.
+-- The records seen name the geometries that were returned, and one more if a root waits.
 pub record Reaches {R : Type 0} (l : Allowance) (remaining : R → Option (List ℕ))
     (told : Option (List ℕ)) (records : List Record) (given : List Tree) (now : Progress R) : Type 0
   where
@@ -228,21 +227,22 @@ pub record Reaches {R : Type 0} (l : Allowance) (remaining : R → Option (List 
     pub begins : IfSome told (λ text. BeginWith text seen)
     pub stands : StandsAt l remaining told seen given now
 
--- the geometry with these rows is complete; before the first root there is none
+-- the geometry with these rows is complete, and is returned; if there are no rows, no root was read
+-- before, and nothing is returned
 abbrev pub Completes : {R : Type 0} → Allowance → (R → Option (List ℕ)) → Option (List ℕ)
     → List Record → List Tree → List Row → Progress R → Type 0
 Completes l remaining told records given [] now = Reaches l remaining told records given now
 Completes l remaining told records given (root ∷ more) now =
     GivesRows l remaining told records given (root ∷ more) now
 
--- the records name one more geometry, which has these rows so far, and the new reader reads it
+-- the records name one more geometry, which has these rows so far, and the new reader reads it; if
+-- there are no rows, its root was not read
 abbrev pub Begins : {R : Type 0} → (R → Option (List ℕ)) → TableReader R → List Row → TableReader R → Type 0
 Begins remaining old so_far new = Wherever remaining old
     (λ l told records given. IsReading l remaining told records given so_far (progress new))
 
--- P holds of the limits, the text, the records read before the call and the geometries returned,
--- for
--- every state in which the reader may be reading rows
+-- `Holds` is true of the limits, the text, the records read before the call and the geometries
+-- returned, for every state in which the reader may be reading rows
 abbrev pub WhereverReading : {R : Type 0} → (R → Option (List ℕ)) → Progress R → List Row
     → (Allowance → Option (List ℕ) → List Record → List Tree → Type 0) → Type 0
 WhereverReading remaining old so_far Holds =
@@ -255,23 +255,24 @@ abbrev pub FaultsIn : {R : Type 0} → (R → Option (List ℕ)) → Progress R 
 FaultsIn remaining old so_far f = WhereverReading remaining old so_far
     (λ l told records given. Explains l told records given f)
 
--- the fault is that of a call that was not refused before, and is marked
+-- the fault is not `Spent`, and the new reader is spent
 abbrev pub IsMarked : TableFault → RowReader → Type 0
 IsMarked f rows = (f ≢ fault.Spent) × (is_stopped rows.state ≡ true)
 
--- whether a root waits: if not, the end was reached
+-- a root waits if `found` is true; the table's end was reached if not
 abbrev pub IsReady : Bool → RowReader → Type 0
 IsReady true rows = 0 < length (waiting rows)
 IsReady false rows = is_over rows.state ≡ true
 
--- what reading the header shows
+-- what the result of reading the header says: no root waits yet, or a fault
 abbrev pub ReadsHeader : {R : Type 0} → (R → Option (List ℕ)) → TableReader R
     → Result (Unit {0}) TableFault → TableReader R → Type 0
 ReadsHeader remaining old (Ok done) new = Begins remaining old (waiting new.rows) new ×
     (waiting new.rows ≡ [])
 ReadsHeader remaining old (Err f) new = Faults remaining old f × IsMarked f new.rows
 
--- what looking for the root of the next geometry shows
+-- what the result of looking for the root of the next geometry says: it waits, there is none, or a
+-- fault
 abbrev pub FindsRoot : {R : Type 0} → (R → Option (List ℕ)) → TableReader R → Result Bool TableFault
     → TableReader R → Type 0
 FindsRoot remaining old (Ok found) new =
@@ -280,7 +281,8 @@ FindsRoot remaining old (Ok found) new =
     × IsReady found new.rows
 FindsRoot remaining old (Err f) new = Faults remaining old f × IsMarked f new.rows
 
--- what reading a root shows, before the first geometry or after a point
+-- what the result of reading a root says, as the first one or after a point that waits: the root
+-- waits, the table ended, or a fault
 abbrev pub ReadsNextRoot : {R : Type 0} → (R → Option (List ℕ)) → Progress R
     → Result Bool TableFault
     → Progress R → Type 0
@@ -290,7 +292,8 @@ ReadsNextRoot remaining old (Ok found) new =
 ReadsNextRoot remaining old (Err f) new = FaultsIn remaining old (waiting old.rows) f × IsMarked f
     new.rows
 
--- what reading a record after these rows of a geometry shows
+-- what the result of reading a record after these rows of a geometry says: one more row of it, its
+-- end, or a fault
 abbrev pub ReadsNextRow : {R : Type 0} → (R → Option (List ℕ)) → Progress R → List Row
     → Result Bool TableFault → List Row → Progress R → Type 0
 ReadsNextRow remaining old before (Ok true) after new =
@@ -304,7 +307,7 @@ ReadsNextRow remaining old before (Ok false) after new =
 ReadsNextRow remaining old before (Err f) after new = FaultsIn remaining old before f × IsMarked f
     new.rows
 
--- what a call that is neither after the end nor after a refusal shows
+-- what the result of reading a geometry says, if the reader is neither at the end nor spent
 abbrev pub ReadsGeometry : {R : Type 0} → (R → Option (List ℕ)) → TableReader R
     → Result Bool TableFault
     → List Row → TableReader R → Type 0

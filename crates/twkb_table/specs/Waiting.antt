@@ -30,7 +30,7 @@ abbrev pub is_over : State → Bool
 is_over state.Over = true
 is_over _ = false
 
--- a call returned an error, or a geometry is being read
+-- a call returned an error, or is reading a header or a geometry
 abbrev pub is_stopped : State → Bool
 is_stopped state.Spent = true
 is_stopped _ = false

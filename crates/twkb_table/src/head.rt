@@ -53,9 +53,8 @@ impl RowHead<'_> {
         self.limits.points().saturating_sub(self.row_place.points)
     }
 
-    // Fast path: reads the point of the row, if the row is of kind point and its text is exactly
-    // one point, if its place allows one, and if the limit leaves room for it. `None` proves
-    // nothing.
+    // Fast path: the point of a row of kind point whose text is exactly one point, if its place
+    // allows a point and the limits leave room for it. `None` does not say that the row is refused.
     #[inline(always)]
     #[tactic(auto, using(crate::proofs::RowReaderLemmas::one_judged))]
     fn one_point(&self) -> Option<Pt>

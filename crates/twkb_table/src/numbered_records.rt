@@ -42,9 +42,9 @@ pub(crate) fn read_next<R: Read>(
     Ok(found)
 }
 
-// Reads the next record after the header into `last`, adds 1 to `number`, the number of records
-// after the header, and returns whether there was a record. An `Err` is `TooManyRecords` if the
-// record's number in the table would be 2^32, or `Source` if the device failed or memory was refused.
+// Reads the next record after the header into `last`, and returns whether there was one; if so,
+// adds 1 to `number`, which counts the records after the header. An `Err` is `Source`, as with
+// `read_next`, or `TooManyRecords` if the record's number in the table would be 2^32 or more.
 #[inline(always)]
 pub(crate) fn next_record<R: Read>(
     reader: &mut Reader<&mut Tap<R>>,
@@ -66,8 +66,9 @@ pub(crate) fn next_record<R: Read>(
     Ok(true)
 }
 
-// The fault to report for the last record after this many after the header, if it gave no row:
-// `Memory` if memory was refused, else `At` with the record's number in the table and the reason.
+// The fault to return if the last record read, the one with this number after the header, gave no
+// row: `Memory` if memory was refused, else `At` with the reason and the record's number in the
+// table, which is one more.
 pub(crate) fn fault_at(number: u32, stop: Stop<RowReason>) -> TableFault
     ensures value { result ≡ fault_of (number + 1) stop }
 {

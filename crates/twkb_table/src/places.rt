@@ -13,8 +13,8 @@ use twkb_polyline::PolyReason;
 use twkb_tree::row_checks::{Refusal, count_refusal, id_refusal, place_refusal, precision_refusal};
 use twkb_tree::{Kind, Limits, RowPlace};
 
-/// The reason of a record whose row is refused. Points that have no text are refused at byte 0.
-/// Takes no memory.
+/// The reason to refuse a record whose row is refused for `refusal`. Points that are out of range
+/// or too many are refused at byte 0 of their text. Takes no memory.
 #[inline(always)]
 pub fn reason_of(refusal: Refusal) -> RowReason
     ensures { result ≡ rule_reason refusal }

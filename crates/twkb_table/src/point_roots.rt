@@ -21,11 +21,10 @@ impl<'a, R: Read> TableReader<'a, R> {
         self.rows.waiting_point().is_some()
     }
 
-    /// Fast path: if `has_point`, returns the precision and the point of the next geometry; else
-    /// `None`, reading nothing: `next_flat` reads any geometry, and calls of the two may be mixed.
-    /// The point is returned after the next root was accepted, or at the table's end; an `Err` is
-    /// as with `next_flat`, and after it each call returns `Spent`. Takes memory for the reader of
-    /// `csv`, one record and one root's points.
+    /// Fast path: if `has_point`, returns the precision and the point of the next geometry, after
+    /// the next root was accepted or the table ended, as `next_flat` does; else `None`, reading
+    /// nothing. Calls of both may be mixed. An `Err` is as with `next_flat`, and after it each call
+    /// returns `Spent`. Takes memory for the reader of `csv`, one record and one root's points.
     #[inline(always)]
     pub fn next_point(&mut self) -> Result<Option<(i8, Pt)>, TableFault>
         ensures gives { IfOk result (λ found. IfSome found

@@ -32,7 +32,7 @@ pub(crate) enum State {
     Waiting(Root),
     // The table's end was reached, and all its geometries were returned.
     Over,
-    // A geometry is being read, or was not read to its end because of an error.
+    // A header or a geometry is being read, or a call returned an error.
     Spent,
 }
 
@@ -52,7 +52,8 @@ impl RowReader {
     ghost use Rattle.twkb_table.specs.RowReading.{limits_of, waiting, JudgedAfter};
     ghost use Rattle.twkb_table.specs.RowReading.{Keeps, ReadsRoot, ReadsRow};
 
-    // Makes a reader that has read no row. Takes no memory.
+    // Makes a reader that has read no row, and refuses a geometry past these limits when it reads
+    // it. Takes no memory.
     pub(crate) fn new(alloc: Global, limits: Limits) -> RowReader
         ensures limits { limits_of result ≡ limits }
         ensures fresh { result.state ≡ State.Fresh }
@@ -67,7 +68,7 @@ impl RowReader {
         }
     }
 
-    // Sets the state, to another one than that a root waits.
+    // Sets the state, which must not be `Waiting`.
     #[inline(always)]
     pub(crate) fn stop(&mut self, state: State)
         requires none { (root : Root) → state ≡ State.Waiting root → ⊥ }
@@ -77,9 +78,9 @@ impl RowReader {
         self.state = state;
     }
 
-    // Reads a record as the root of the next geometry, which then waits. No root may wait before but
-    // a point that is not empty: no row may be its child. An `Err` is the first reason to refuse the
-    // record, or want of memory for its points.
+    // Reads a record as the root of the next geometry, which then waits. Before, no root may wait
+    // but that of a point that is not empty, so that no row can be its child. An `Err` is the first
+    // reason to refuse the record, or want of memory for its points, and makes the state `Spent`.
     #[inline(always)]
     pub(crate) fn read_root(&mut self, csv_record: &ByteRecord) -> Result<(), Stop<RowReason>>
         requires { IsAlone (waiting self.old) }
@@ -114,7 +115,8 @@ impl RowReader {
     }
 
     // Moves the root that waits, of which there must be one, into a flat form, in place of the
-    // form's rows. Takes memory. After an `Err` nothing is known of the form.
+    // form's rows; its geometry is then being read. Takes memory. After an `Err` nothing is known
+    // of the form.
     #[inline(always)]
     pub(crate) fn begin(&mut self, flat: &mut Flat) -> Result<(), AllocError>
         requires waits { 0 < length (waiting self.old) }

@@ -61,11 +61,9 @@ impl<'a, R: Read> TableReader<'a, R> {
     }
 
     /// Reads the next geometry into a flat form, in place of its rows, and returns whether there
-    /// was one, after the next root was accepted, or at the table's end. After a false or an `Err`
-    /// the form is empty. An `Err` is `Source`, `Memory`, `TooManyRecords` or the first refused
-    /// record; after it each call returns `Spent`, and after the end false; neither reads. Takes
-    /// memory for the reader of `csv`, one record, one root's points, the open rows, and the flat
-    /// form.
+    /// was one. It also reads the next root, so an `Err` may be about that root. The form is empty
+    /// after false or an `Err`; after an `Err` each call returns `Spent`. Takes memory for the
+    /// reader of `csv`, one record, one root's points, the open rows and the form.
     pub fn next_flat(&mut self, flat: &mut Flat) -> Result<bool, TableFault>
         ensures gives { IfOk result (λ found. found ≡ true → Gives R.remaining self.old flat.new self.new) }
         ensures ends { IfOk result (λ found. found ≡ false → Ends R.remaining self.old self.new) }
@@ -150,9 +148,9 @@ impl<'a, R: Read> TableReader<'a, R> {
         }
     }
 
-    // Reads the next geometry into a flat form, in place of its rows, and returns it built; `None`
-    // at the table's end. An `Err` is as with `next_flat`, or `Memory` if it is refused for the
-    // geometry.
+    // Reads the next geometry into a flat form, in place of its rows, and returns it as a tree;
+    // `None` at the table's end. An `Err` is as with `next_flat`, or `Memory` if there is none for
+    // the tree.
     #[inline(never)]
     fn next_tree(&mut self, flat: &mut Flat) -> Result<Option<Geometry>, TableFault>
         ensures gives { IfOk result (λ found. IfSome found
@@ -176,7 +174,8 @@ impl<'a, R: Read> TableReader<'a, R> {
     }
 
     // Reads the next geometry into a flat form, which must be empty, and returns whether there was
-    // one. The reader must be neither at the end nor spent. An `Err` marks it as spent.
+    // one. The reader must be neither at the end nor spent. An `Err`, as with `next_flat`, marks it
+    // as spent; nothing is then known of the form.
     #[inline(always)]
     fn read_geometry(&mut self, flat: &mut Flat) -> Result<bool, TableFault>
         requires more { is_ended self.old ≡ false }
@@ -196,7 +195,8 @@ impl<'a, R: Read> TableReader<'a, R> {
 
     // Reads the next record after the rows of a flat form, which must be those of the geometry that
     // is being read. Appends a row of that geometry to them and returns true, or returns false if
-    // the record is the root of the next geometry, which then waits, or if the table ended.
+    // the record is the root of the next geometry, which then waits, or if the table ended. An
+    // `Err` is as with `next_flat`, and leaves the reader spent.
     #[inline(always)]
     fn next_row(&mut self, flat: &mut Flat) -> Result<bool, TableFault>
         requires { Keeps self.old.rows flat.old }
@@ -218,7 +218,7 @@ impl<'a, R: Read> TableReader<'a, R> {
 
     // Makes sure that the root of the next geometry waits, and returns whether there is one. If no
     // record was read, reads the header and the first root. The reader must be neither at the end
-    // nor spent.
+    // nor spent. An `Err` is as with `next_flat`, and marks the reader as spent.
     #[inline(always)]
     fn find_root(&mut self) -> Result<bool, TableFault>
         requires more { is_ended self.old ≡ false }
@@ -232,7 +232,8 @@ impl<'a, R: Read> TableReader<'a, R> {
     }
 
     // Reads the header and the first root, which then waits, and returns whether there is one. No
-    // record may have been read before.
+    // record may have been read before. An `Err` is as with `next_flat`, and marks the reader as
+    // spent.
     #[inline(never)]
     fn read_first(&mut self) -> Result<bool, TableFault>
         requires { self.old.rows.state ≡ State.Fresh }
@@ -244,8 +245,9 @@ impl<'a, R: Read> TableReader<'a, R> {
         }
     }
 
-    // Reads the first record of the table. An `Err` is `BadHeader` at record 1 if it is missing or
-    // is not the header, or `Source`. No record may have been read before.
+    // Reads the first record of the table. An `Err` is `BadHeader` at record 1 if the record is
+    // missing or is not the header, or `Source`. No record may have been read before. Leaves the
+    // state `Spent`, also after an `Ok`.
     #[inline(always)]
     fn read_header(&mut self) -> Result<(), TableFault>
         requires { self.old.rows.state ≡ State.Fresh }
@@ -265,8 +267,8 @@ impl<'a, R: Read> TableReader<'a, R> {
     }
 
     // Reads the next record as a root, which then waits, and returns whether there is one. No root
-    // may wait but a point that is not empty: only a root can come after it, and it is judged like
-    // the first one.
+    // may wait before but that of a point that is not empty: then too only a root can come next. An
+    // `Err` is as with `next_flat`, and marks the reader as spent.
     #[inline(always)]
     pub(crate) fn next_root(&mut self) -> Result<bool, TableFault>
         requires { IsAlone (waiting self.old.rows) }

@@ -22,7 +22,7 @@ row_place_at depth rows nodes points = record {
   points = count_at depth points;
 }
 
--- the row with these fields at its place
+-- the row with these fields at this place, whose depth it has
 abbrev pub row_there : RowPlace → Kind → Option ℤ → Option ℤ → List Point → Row
 row_there s k id precision points = record {
   depth = s.depth;
@@ -46,6 +46,7 @@ points_checks in_range l s r =
     ∷ check (nat_le (s.points + length r.points) l.points) TooManyPoints
     ∷ count_checks (row_of s.parent) r
 
--- all tests of a row at its place in order, given whether its coordinates are in range
+-- all tests of a row at its place, in order, given whether the coordinates of its points are in
+-- range
 abbrev pub row_checks : Bool → Allowance → RowPlace → Row → List Check
 row_checks in_range l s r = field_checks l s r ++ points_checks in_range l s r

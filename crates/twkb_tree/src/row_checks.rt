@@ -36,7 +36,7 @@ pub enum Refusal {
     BadPrecision,
     /// A root or a member of a collection has no precision.
     PrecisionMissing,
-    /// A part of a geometry has a precision.
+    /// A component of a geometry has a precision.
     PrecisionNotAllowed,
     /// A row of a kind without points has points.
     PointsNotAllowed,
@@ -44,7 +44,7 @@ pub enum Refusal {
     CoordinateRange,
     /// The geometry has more points than allowed.
     TooManyPoints,
-    /// A point of a multipoint does not have exactly one point, or another point has more than one.
+    /// A row of kind point has more than one point, or it is a member of a multipoint and has none.
     PointCount,
 }
 
@@ -67,8 +67,8 @@ pub fn place_refusal(limits: &Limits, row_place: &RowPlace, kind: Kind) -> Optio
     None
 }
 
-/// The reason why a row of this kind at this place may not have an id, if `has_id`, or may not be
-/// without one, if not; `None` if it may. Takes no memory.
+/// If `has_id`, the reason why a row of this kind at this place may not have an id; if not, the
+/// reason why it may not be without one. `None` if it may. Takes no memory.
 #[inline(always)]
 pub fn id_refusal(row_place: &RowPlace, kind: Kind, has_id: bool) -> Option<Refusal>
     ensures { (r : Row) → r.kind ≡ kind → is_some r.id ≡ has_id → id_in_range r.id ≡ true
@@ -83,8 +83,8 @@ pub fn id_refusal(row_place: &RowPlace, kind: Kind, has_id: bool) -> Option<Refu
     None
 }
 
-/// The reason why a row at this place may not have a precision, if `has_precision`, or may not be
-/// without one, if not; `None` if it may. Takes no memory.
+/// If `has_precision`, the reason why a row at this place may not have a precision, whose range is
+/// not tested; if not, the reason why it may not be without one. `None` if it may. Takes no memory.
 #[inline(always)]
 pub fn precision_refusal(row_place: &RowPlace, has_precision: bool) -> Option<Refusal>
     ensures { (r : Row) → is_some r.precision ≡ has_precision → precision_in_range r.precision ≡ true
@@ -164,8 +164,9 @@ fn is_right_precision(precision: Option<i8>) -> bool
     }
 }
 
-/// The first reason why a row with these fields may not come at this place, whatever its points
-/// are; `None` if it may. The depth is that of the place. Takes no memory.
+/// The first reason why a row of this kind, id and precision may not come at this place, within the
+/// limits, whatever its points are; `None` if it may. Its depth is that of the place. Takes no
+/// memory.
 #[inline(always)]
 pub fn field_refusal(
     limits: &Limits,
@@ -191,7 +192,7 @@ pub fn field_refusal(
 }
 
 /// The first reason why a row with these fields and `count` points may not come at this place,
-/// within the limits; `None` if it may. The depth is that of the place. No coordinate is looked at:
+/// within the limits; `None` if it may. Its depth is that of the place. No coordinate is looked at:
 /// the answer is that for points in range. Takes no memory.
 #[inline(always)]
 pub fn row_refusal(

@@ -1,4 +1,4 @@
--- Bounds on the numbers that a pass over rows adds up, which follow from the limits on rows and points.
+-- Bounds on the numbers that a pass over rows adds up, by the limits on rows and points.
 use Rattle.std.specs.Prelude.{ℕ, ◌^◌}
 
 -- the weights of the rows at all depths, with the bytes of the points up to the next geometry, are

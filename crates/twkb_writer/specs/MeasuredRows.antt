@@ -51,11 +51,12 @@ abbrev pub tail_after : Option ℤ → TailTotals → TailTotals
 tail_after None t = t
 tail_after (Some p) t = tail_of []
 
--- the number of rows at a depth, and of the bytes of their ids and of all rows below
+-- the sum of three numbers in the totals of a depth: of its rows, of the bytes of their ids, and of
+-- their other bytes
 abbrev pub weight : RowTotals → ℕ
 weight l = l.members + l.ids + l.bytes
 
--- the same numbers of all depths together
+-- the sum of the weights of all depths
 abbrev pub weights : List RowTotals → ℕ
 weights [] = 0
 weights (l ∷ ls) = weight l + weights ls

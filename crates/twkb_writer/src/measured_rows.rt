@@ -36,8 +36,8 @@ pub(crate) fn look_at_reads(work: &Work)
 }
 
 // Returns `tail`, the totals of the points after a node's own in its geometry, with the node's own
-// before them. `tail.bytes` must be at most 2^30, and all points at most 2^24. Reads each own point
-// once, two at a time, from the last to the first.
+// before them. `tail.bytes` must be at most 2^30, and `all` may have at most 2^24 points. Reads
+// each own point once, two at a time, from the last to the first.
 #[inline(always)]
 pub(crate) fn take_points<P: PlacedPoints>(
     all: &P,

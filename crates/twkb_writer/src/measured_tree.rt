@@ -20,18 +20,20 @@ use twkb_grammar::Style;
 use twkb_points::Pt;
 use twkb_tree::{Element, Geometry, Ids, Kind, Lines, Members, Pts, Shape, id_at};
 
-// What was measured of the rows of a geometry, from some row to the last. Rows are added before
-// these. All rows together must be those of a geometry within `Limits::largest()`.
+// What was measured of the rows of a geometry, from one of them to the last: rows are added from
+// the last to the first, for the blob in full style. All rows together must be those of a geometry
+// within `Limits::largest()`.
 #[derive(Drop)]
 struct RowPass {
     // The totals of the rows at each depth.
     depths: Depths,
-    // The totals of the points up to the next geometry.
+    // The totals of the points from the row added last up to the next geometry.
     tail: TailTotals,
 }
 
 impl RowPass {
-    // Adds a row with these points. Reads each point once. Takes no memory.
+    // Adds a row with these points before the rows added so far. Reads each point once. Takes no
+    // memory.
     fn add(&mut self, row: Row, points: &[Pt])
         requires { Awaits self.old (row_with row points.now ∷ []) }
         ensures { Adds self.old (row_with row points.now ∷ []) self.new }
@@ -54,7 +56,8 @@ trait MeasuredComponent: Element {
     // The rows of the component, given its own row without the points.
     ghost rows: { FlatRow → Self → List TableRow };
 
-    // Adds the rows of the component, given its own row without the points. Takes no memory.
+    // Adds the rows of the component to the pass, before those added so far. `row` is its own row,
+    // without the points. Takes no memory.
     fn add_to(&self, row: Row, pass: &mut RowPass)
         requires { Awaits pass.old (rows row self.now) }
         ensures { Adds pass.old (rows row self.now) pass.new };
@@ -85,7 +88,7 @@ impl MeasuredComponent for Lines {
     }
 }
 
-// Adds the rows of components of this kind and depth, with their ids. Takes no memory.
+// Adds the rows of components of this kind and depth, with these ids, to the pass. Takes no memory.
 fn add_each<T: MeasuredComponent>(
     kind: Kind,
     depth: u32,
@@ -107,7 +110,8 @@ fn add_each<T: MeasuredComponent>(
     }
 }
 
-// Adds the rows of a collection's members at this depth, with their ids. Takes no memory.
+// Adds the rows of a collection's members at this depth, with these ids, and of all that is inside
+// them, to the pass. Takes no memory.
 #[cycle(measuring)]
 #[tactic(auto, using(twkb_tree::specs::Size::member_smaller))]
 fn add_members(members: &Members, depth: u32, ids: &Ids, pass: &mut RowPass)
@@ -120,7 +124,8 @@ fn add_members(members: &Members, depth: u32, ids: &Ids, pass: &mut RowPass)
     }
 }
 
-// Adds the rows below a geometry's own row, which begin at this depth. Takes no memory.
+// Adds the rows below a geometry's own row, of which the first is at this depth, to the pass. Takes
+// no memory.
 #[cycle(measuring)]
 fn add_under(geometry: &Geometry, depth: u32, pass: &mut RowPass)
     requires { Awaits pass.old (rows_under depth geometry.now) }
@@ -142,7 +147,8 @@ fn add_under(geometry: &Geometry, depth: u32, pass: &mut RowPass)
     }
 }
 
-// Adds the rows of a geometry with this depth and id. Takes no memory.
+// Adds the row of a geometry at this depth, with this id, and the rows below it to the pass. Takes
+// no memory.
 #[cycle(measuring)]
 fn add_geometry(geometry: &Geometry, depth: u32, id: Option<i64>, pass: &mut RowPass)
     requires { Awaits pass.old (rows_with id depth geometry.now) }
