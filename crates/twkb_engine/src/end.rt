@@ -53,7 +53,6 @@ impl Engine {
     // member ends with it, the innermost first, and notes the ends of their spans. Returns true if
     // the blob ends, and goes to the next one; false if a member comes next. An `Err` is the first
     // size that is not exact. Takes no memory.
-    #[inline(always)]
     pub(crate) fn end_geometry<S: SpanNotes>(&mut self, spans: &mut S) -> Result<bool, Inexact>
         requires shut { are_shut self.old.points_left self.old.rings_left self.old.members_left ≡ true }
         requires inside { IsInside self.old.next }
