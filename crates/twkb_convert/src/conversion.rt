@@ -23,8 +23,6 @@ pub enum Conversion {
 
 /// Converts all that a reader gives as `pack_styled`, `unpack` or `show` does, whichever `what`
 /// names; the result and the memory that it takes are those of that function.
-// A frame of its own keeps the values of its loops in registers (docs/PERF_HISTORY.md, change 33).
-#[inline(never)]
 pub fn convert<R: Read, W: Write>(
     alloc: Global,
     what: Conversion,
