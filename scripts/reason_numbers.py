@@ -61,7 +61,7 @@ def whole_input(rows):
     wanted = of_kind(rows, "whole")
     for file, line, columns in (
         ("crates/twkb_convert/src/report.rt", r'^ *Cause::(\w+) => "(.*)",$', ("code", "text")),
-        ("crates/twkb_convert/specs/Texts.antt", r'^\w+ cause\.(\w+) = codes "(.*)"$', ("code", "text")),
+        ("crates/twkb_convert/specs/Causes.antt", r'^\w+ cause\.(\w+) = codes "(.*)"$', ("code", "text")),
         (f"{BUFFER}/src/reason_numbers.rt", r"^ *Cause::(\w+) => (\d+),$", ("code", "number")),
         (f"{BUFFER}/src/reason_texts.rt", r"^ *(\d+) => Some\(Cause::(\w+)\),$", ("number", "code")),
         (f"{BUFFER}/specs/Numbers.antt", r"^reason_number_of cause\.(\w+) = (\d+)$", ("code", "number")),

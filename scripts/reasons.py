@@ -23,8 +23,8 @@ NAMES = {"row": "row", "polyline": "text", "blob": "blob"}
 NUMBERS = {"row": "row_number_of", "polyline": "point_text_number_of", "blob": "blob_number_of"}
 # where a kind stands in the code, and its texts in a definition
 TEXTS = {
-    "row": ("twkb_table/src/reason.rt", "twkb_table/specs/Texts.antt", "row_words"),
-    "polyline": ("twkb_polyline/src/fault.rt", "twkb_polyline/specs/Texts.antt", "point_text_words"),
+    "row": ("twkb_table/src/reason.rt", "twkb_table/specs/RowFault.antt", "row_words"),
+    "polyline": ("twkb_polyline/src/fault.rt", "twkb_polyline/specs/Fault.antt", "point_text_words"),
     "blob": ("twkb_engine/src/blob_reason.rt", "twkb_engine/specs/Texts.antt", "blob_words"),
 }
 # the section of the manual that explains them
@@ -108,7 +108,7 @@ def rule_places(rows):
     codes = [(OTHERS.get(rule, rule), rule) for rule in rules]
     in_order = sorted(codes, key=lambda pair: numbers.get(pair[0], 0))
     lines = [f"rule_reason Refusal.{rule} = " + (f"row.Polyline 0 text.{code}" if code in texts else f"row.{code}") for code, rule in in_order]
-    yield Place("crates/twkb_table/specs/RowRules.antt", r"rule_reason Refusal\.\w+ = row\..*", lines)
+    yield Place("crates/twkb_table/specs/Judged.antt", r"rule_reason Refusal\.\w+ = row\..*", lines)
     lines = [f"        Refusal::{rule} => RowReason::" + (f"Polyline(0, PolyReason::{code})," if code in texts else f"{code},") for code, rule in in_order]
     yield Place("crates/twkb_table/src/places.rt", r" +Refusal::\w+ => RowReason::.*", lines)
 
@@ -141,7 +141,7 @@ def number_places(rows):
 
 def proof_places(rows):
     """Where a lemma goes through all reasons."""
-    file = f"{BUFFER}/proofs/TextLemmas.antt"
+    file = f"{BUFFER}/proofs/RunLemmas.antt"
     reasons = {kind: own(of_kind(rows, kind)) for kind in TYPES}
     causes = (
         each(reasons["row"], "cause.Row 0 row.{code}") + each(reasons["polyline"], "cause.Row 0 (row.Polyline 0 text.{code})")

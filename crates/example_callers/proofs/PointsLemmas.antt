@@ -8,7 +8,7 @@ use Rattle.std.specs.Io.KnownBytes.{Consumes}
 use Rattle.std.specs.declared.io.traits.Read.{Ghosts}
 use Rattle.twkb_tree.specs.Tree.{Tree, flat, saturated}
 use Rattle.twkb_tree.specs.Limits.{Allowance}
-use Rattle.twkb_grammar.specs.Blob.{Stream}
+use Rattle.twkb_grammar.specs.Items.{Stream}
 use Rattle.twkb_grammar.proofs.Streams.{stream-append}
 use Rattle.twkb_io.specs.Inputs.{rest_of}
 use Rattle.twkb_blob.specs.Readers.{IsNext, Makes, has_ended, is_spent, reader_input, reader_limits}

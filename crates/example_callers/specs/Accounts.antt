@@ -7,7 +7,7 @@ use Rattle.twkb_tree.specs.Tree.{Tree}
 use Rattle.twkb_tree.specs.Limits.{Allowance}
 use Rattle.twkb_grammar.specs.Written.{canonical_stream}
 use Rattle.twkb_grammar.specs.declared.style.Style.TheVariants.{Full}
-use Rattle.twkb_convert.specs.RefusedRows.{IsRefusedAt, NamesAll}
+use Rattle.twkb_convert.specs.Parts.{IsRefusedAt, NamesAll}
 use Rattle.twkb_convert.specs.declared.report.Cause.{Cause}
 use Rattle.twkb_convert.specs.declared.report.Cause.TheVariants as cause
 use Rattle.example_callers.specs.declared.accounts.Account.{Account}

@@ -1,34 +1,50 @@
--- Rows and points that are written into arrays, and determine the rows of geometries.
+-- Rows and points of geometries in arrays, as far as there is room, and the tests of a row.
 use borrow.Rule.Slice.PartMut.{put_mid}
 use Rattle.std.proofs.Common.{◌≡◌, ◌<◌, ℕ, suc, true, List, [], ◌∷◌, length, ap, refl, arith, get_or, zero, ◌+◌, ◌-◌}
 use Rattle.std.proofs.Common.{◌≤◌, ◌++◌, take, drop, sym, ◌∙◌, length-append, append_assoc, ℤ, pos, negsuc, eqb}
-use Rattle.std.proofs.Common.{if◌then◌else◌, Bool, false, inl, inr}
-use Rattle.std.specs.Prelude.{slice_get, Some, slice_set, Option, None, IfSome, ◌==◌}
+use Rattle.std.proofs.Common.{if◌then◌else◌, Bool, false, inl, inr, ◌^◌, subst, bit_or, slice_index_or}
+use Rattle.std.specs.Prelude.{slice_get, Some, slice_set, Option, None, IfSome, ◌==◌, ◌↔◌, nat_lt, Result, Ok, Err}
 use Rattle.std.proofs.lemmas.List.{take-append-drop, map-append, append-nil, take_more, take_more_set, length-set}
-use Rattle.std.proofs.lemmas.List.{take_at, drop-drop, drop_at, length-take-le, length-drop, take_rest}
+use Rattle.std.proofs.lemmas.List.{take_at, drop-drop, drop_at, length-take-le, length-drop, take_rest, take_all}
 use Rattle.std.proofs.Math.Seq.{take-add}
 use Rattle.std.proofs.lemmas.Option.{slice_get_within, get_or_from_slice_get}
 use Rattle.std.proofs.lemmas.Slice.{take-put_mid}
 use Rattle.std.proofs.lemmas.Grind.{flat_map-append}
-use Rattle.std.proofs.lemmas.Bool.{eqb-true}
+use Rattle.std.proofs.lemmas.Bool.{eqb-true, cases_Bool, false≢true}
 use Rattle.std.proofs.lemmas.Int.{ints}
 use Rattle.twkb_points.specs.Point.{Point, AreInRange, IsInRange}
-use Rattle.twkb_tree.specs.Refusal.{are_in_range, refusal}
+use Rattle.twkb_tree.specs.Refusal.{are_in_range, refusal, Check, check, first_failed}
 use Rattle.twkb_tree.specs.declared.row_checks.Refusal.{Refusal}
-use Rattle.twkb_tree.specs.Rows.{Row, row_points}
-use Rattle.twkb_tree.specs.Tree.{IsPrecision}
+use Rattle.twkb_tree.specs.Rows.{Row, row_points, rows}
+use Rattle.twkb_tree.specs.Tree.{IsPrecision, Tree}
 use Rattle.twkb_tree.specs.Limits.{Allowance}
 use Rattle.twkb_tree.specs.declared.kind.Kind.{Kind}
 use Rattle.twkb_tree.specs.declared.kind.Kind.TheVariants as kind
-use Rattle.twkb_tree.proofs.RowForest.{points_in_range}
+use Rattle.twkb_tree.proofs.RowForest.{points_in_range, are_in_range-true}
 use Rattle.twkb_table.proofs.FieldLemmas.{ArePlain, IsPlain, head_same, tail_same}
 use Rattle.twkb_buffer.specs.Polylines.{coordinates_of, coordinates_at}
 use Rattle.twkb_buffer.specs.declared.point.BufferPoint.{BufferPoint}
-use Rattle.twkb_buffer.proofs.PolylineLemmas.{coordinates_of-append}
+use Rattle.twkb_buffer.proofs.RunLemmas.{coordinates_of-append}
 use Rattle.twkb_arrays.specs.Rows.{point_of, points_of, row_in_c, rows_in_c, id_flag, id_number, kind_number}
 use Rattle.twkb_arrays.specs.Rows.{precision_number}
 use Rattle.twkb_arrays.specs.declared.row.BufferRow.{BufferRow}
-use Rattle.twkb_arrays.specs.JudgedRow.{HasRightId, RefusedAfter, is_no_precision, row_from_c}
+use Rattle.twkb_arrays.specs.JudgedRow.{HasRightId, RefusedAfter, is_no_precision, row_from_c, AreBelow}
+use Rattle.std.specs.Simd.Lanes.{zip2}
+use Rattle.std.proofs.lemmas.Bool.Decides.{nat_tests}
+use Rattle.std.proofs.Math.Nat.{lt_of_le_of_lt}
+use Rattle.std.proofs.lemmas.Nat.{le_or_l, le_or_r, or_lt}
+use Rattle.std.proofs.lemmas.Simd.{length-zip2}
+use Rattle.twkb_tree.specs.declared.row_checks.Refusal.TheVariants.{PointsNotAllowed, CoordinateRange, TooManyPoints}
+use Rattle.twkb_tree.specs.declared.row_checks.Refusal.TheVariants.{PointCount}
+use Rattle.twkb_arrays.specs.SentBlobs.{Fit, are_more}
+use Rattle.twkb_blob.specs.Sessions.{FedFlat, FedSession, Finished, Stands, session_limits, session_rows}
+use Rattle.twkb_blob.specs.declared.session.Session.{Session}
+use Rattle.twkb_blob.specs.declared.fault.BlobFault.{BlobFault}
+use Rattle.twkb_blob.specs.declared.fault.BlobFault.TheVariants as fault
+use Rattle.twkb_arrays.specs.FilledArrays.{HasTaken, TakesOne, BeginsWithBlobs, EndsReading, IsReading}
+use Rattle.twkb_arrays.specs.declared.taken_geometries.Taken.{Taken}
+
+-- ==== Rows and points that are written into arrays, and determine the rows of geometries.
 
 -- ==== The points of a row, all in range.
 
@@ -336,3 +352,219 @@ begins_with (r ∷ rs) (s ∷ ss) more ahead p q e f =
       rows_are = b.rows_are;
       points_are = b.points_are;
     }
+
+-- ==== The reason of the first test of a row that fails.
+
+-- ---- the tests of a row's points
+
+-- the tests of a row's points, by their answers
+abbrev tests : Bool → Bool → Bool → Bool → List Check
+tests allowed in_range room fit =
+    check allowed PointsNotAllowed ∷ check in_range CoordinateRange ∷ check room TooManyPoints
+    ∷ check fit PointCount ∷ []
+
+-- if no other test fails, only the range may refuse the points
+pub by_range : (allowed in_range room fit : Bool)
+    → None ≡ first_failed (tests allowed true room fit)
+    → first_failed (tests allowed in_range room fit) ≡ (if in_range then None else Some
+    CoordinateRange)
+by_range true true room fit e = sym e
+by_range true false room fit e = refl
+by_range false in_range room fit e = cc e
+
+-- a row without points is refused for having them before their range is tested
+pub not_allowed : (allowed in_range room fit : Bool)
+    → Some PointsNotAllowed ≡ first_failed (tests allowed true room fit)
+    → first_failed (tests allowed in_range room fit) ≡ Some PointsNotAllowed
+not_allowed false in_range room fit e = refl
+not_allowed true in_range true true e = cc e
+not_allowed true in_range true false e = cc e
+not_allowed true in_range false fit e = cc e
+
+-- a point out of range is a reason before the number of points
+pub range_first : (allowed room fit : Bool) (why : Refusal) → (why ≡ PointsNotAllowed → ⊥)
+    → Some why ≡ first_failed (tests allowed true room fit)
+    → first_failed (tests allowed false room fit) ≡ Some CoordinateRange
+range_first true room fit why other e = refl
+range_first false room fit why other e = absurd (other (cc e))
+
+-- ---- the range of coordinates
+
+-- two lists of as many numbers, joined by `or`, are below 2^63 if and only if both are
+both_below : (xs ys : List ℕ) → length xs ≡ length ys → AreBelow (zip2 bit_or xs ys) ↔ (AreBelow xs × AreBelow ys)
+both_below [] [] same = (λ below. (tt, tt), λ both. tt)
+both_below (x ∷ xs) (y ∷ ys) same =
+    let more = both_below xs ys (omega (arith, same)) in (
+      λ below.
+          let rest = more.0 below.1 in (
+            (lt_of_le_of_lt (le_or_l x y) below.0, rest.0),
+            (lt_of_le_of_lt (le_or_r x y) below.0, rest.1),
+          ),
+      λ both. (or_lt 63 x y both.0.0 both.1.0, more.1 (both.0.1, both.1.1)),
+    )
+both_below _ _ same = absurd (omega (arith, same))
+
+-- Numbers of the points looked at so far are joined by `or`, those of x and those of y. The points are
+-- in range if and only if what is joined is below 2^63 and the points left are in range.
+pub record Decides (own left : List BufferPoint) (joined : List ℕ) : Type 0 where
+  pub two : length joined ≡ 2
+  pub if_below : AreBelow joined → AreInRange (points_of left) → AreInRange (points_of own)
+  pub is_below : AreInRange (points_of own) → AreBelow joined × AreInRange (points_of left)
+
+-- the numbers of one more point are joined
+pub decides_more : (own left after : List BufferPoint) (c : BufferPoint) (joined numbers : List ℕ)
+    → Decides own left joined → left ≡ c ∷ after → length numbers ≡ 2 → AreBelow numbers ↔ IsInRange (point_of c)
+    → Decides own after (zip2 bit_or joined numbers)
+decides_more own left after c joined numbers so_far next two numbers_are =
+    let same = so_far.two ∙ sym two in
+    let both = both_below joined numbers same in record {
+      two = length-zip2 bit_or joined numbers same ∙ so_far.two;
+      if_below = λ below in_range. so_far.if_below (both.0 below).0
+          (subst (λ (cs : List BufferPoint). AreInRange (points_of cs)) (sym next)
+          (numbers_are.0 (both.0 below).1, in_range));
+      is_below = λ in_range.
+          let so_far_in = so_far.is_below in_range in
+          let left_in = subst (λ (cs : List BufferPoint). AreInRange (points_of cs)) next so_far_in.1 in
+          (both.1 (so_far_in.0, numbers_are.1 left_in.0), left_in.1);
+    }
+
+decided_by : (own left : List BufferPoint) (x y : ℕ) → Decides own left (x ∷ y ∷ []) → left ≡ []
+    → nat_lt (bit_or x y) (2 ^ 63) ≡ are_in_range (points_of own)
+decided_by own left x y all none = elim (cases_Bool (nat_lt (bit_or x y) (2 ^ 63))) [
+  | inl below ↦
+      let less : bit_or x y < 2 ^ 63 = grind (arith, nat_tests) in
+      below ∙ sym (are_in_range-true (points_of own) (all.if_below
+      (lt_of_le_of_lt (le_or_l x y) less, (lt_of_le_of_lt (le_or_r x y) less, tt))
+      (subst (λ (cs : List BufferPoint). AreInRange (points_of cs)) (sym none) tt)))
+  | inr above ↦ elim (cases_Bool (are_in_range (points_of own))) [
+    | inl in_range ↦
+        let below = (all.is_below (points_in_range (points_of own) in_range)).0 in
+        let less = or_lt 63 x y below.0 below.1.0 in
+        absurd (grind (arith, nat_tests))
+    | inr out ↦ above ∙ sym out
+  ]
+]
+
+-- once all points are looked at, what is joined decides
+pub decided : (own left : List BufferPoint) (joined : List ℕ) → Decides own left joined → left ≡ []
+    → nat_lt (bit_or (slice_index_or joined 0 0) (slice_index_or joined 1 0)) (2 ^ 63)
+    ≡ are_in_range (points_of own)
+decided own left (x ∷ y ∷ []) all none = decided_by own left x y all none
+decided own left _ all none = absurd (omega (arith, all.two))
+
+-- ==== The geometries for which there was room, and those after them.
+
+pub no_more : (later : List Tree) → are_more later ≡ false → later ≡ []
+no_more [] e = refl
+no_more (x ∷ xs) e = absurd (false≢true (sym e))
+
+-- one more geometry after others, all of which had room
+pub one_after : (given later : List Tree) (g : Tree) → later ≡ []
+    → (given ++ g ∷ []) ++ [] ≡ (given ++ later) ++ g ∷ []
+one_after given later g none = rw none (simp append-nil)
+
+-- there was room for one more
+pub has_room : {lacks : List Tree → Type 0} {given later : List Tree} {full : Bool} {done : ℕ}
+    (g : Tree) → Fit lacks given later full done → full ≡ false
+    → Fit lacks (given ++ g ∷ []) [] full (done + 1)
+has_room {given = given} g f empty = record {
+  stops = tt;
+  full_is = empty;
+  done_is = omega (arith, f.done_is, length-append given (g ∷ []));
+}
+
+-- there was no room for one more
+pub has_none : {lacks : List Tree → Type 0} {given later : List Tree} {full : Bool} {done : ℕ}
+    (g : Tree) → Fit lacks given later full done → full ≡ false → lacks (given ++ g ∷ [])
+    → Fit lacks given (later ++ g ∷ []) true done
+has_none {later = []} g f empty lack = record { stops = lack; full_is = refl; done_is = f.done_is }
+has_none {later = x ∷ xs} g f empty lack = absurd (false≢true (sym empty ∙ f.full_is))
+
+-- one more came after others for which there was no room
+pub comes_after : {lacks : List Tree → Type 0} {given later : List Tree} {full : Bool} {done : ℕ}
+    (g : Tree) → Fit lacks given later full done → full ≡ true
+    → Fit lacks given (later ++ g ∷ []) full done
+comes_after {later = []} g f is = absurd (false≢true (sym f.full_is ∙ is))
+comes_after {later = x ∷ xs} g f is = record { stops = f.stops; full_is = is; done_is = f.done_is }
+
+-- ==== Streams that are read into arrays.
+
+-- the bytes begin with the blobs after which a session stands
+begins : {gs : List Tree} {s : Session} (blobs : List ℕ) (used : ℕ) → Stands (take used blobs) gs s
+    → BeginsWithBlobs (session_limits s) blobs gs
+begins blobs used at = (
+  at.front,
+  at.rest ++ rest_of blobs used,
+  sym (parts_join blobs used) ∙ ap (λ (b : List ℕ). b ++ rest_of blobs used) at.whole
+      ∙ append_assoc at.front at.rest (rest_of blobs used),
+  at.blobs,
+)
+
+-- why a feed refused the rest of the bytes is how their reading ends
+pub stopped : {gs : List Tree} {old : Session} (blobs : List ℕ) (used : ℕ) (new : Session)
+    (why : BlobFault) → Stands (take used blobs) gs old → session_limits new ≡ session_limits old
+    → FedSession (take used blobs) gs (rest_of blobs used) (Err why) new
+    → EndsReading {A = Unit {0}} (session_limits old) blobs gs (Err why)
+stopped blobs used new fault.Memory at kept fed = begins blobs used at
+stopped blobs used new (fault.Device why) at kept fed = (
+  omega (
+    arith,
+    fed.1.past,
+    length-append (take used blobs) (rest_of blobs used),
+    ap (λ (b : List ℕ). length b) (parts_join blobs used),
+  ),
+  begins blobs used at,
+)
+stopped blobs used new fault.Spent at kept fed = absurd fed
+stopped blobs used new (fault.At offset reason) at kept fed =
+    rw (kept, append_assoc, take-append-drop, parts_join blobs used) at
+    (fed.fault (drop fed.used (rest_of blobs used)))
+
+-- the end of a session is the end of the reading
+pub finished : {A : Type 0} (l : Allowance) (blobs : List ℕ) (gs : List Tree) (answer : Result A BlobFault)
+    → Finished l blobs gs answer → EndsReading l blobs gs answer
+finished l blobs gs (Ok done) f = f
+finished l blobs gs (Err (fault.At offset reason)) f = f
+finished l blobs gs (Err _) f = absurd f
+
+-- a geometry was read to its end, and was taken or counted
+pub took : {start_rows in_rows : List BufferRow} {start_points in_points : List BufferPoint}
+    {new : Session} {taken : Taken} (blobs : List ℕ) (used more : ℕ) (gs : List Tree) (g : Tree)
+    → Stands (take used blobs ++ take more (rest_of blobs used)) (gs ++ g ∷ []) new
+    → TakesOne start_rows start_points gs g in_rows in_points taken
+    → IsReading start_rows start_points (take (used + more) blobs) in_rows in_points new taken
+took blobs used more gs g at (given, later, all, h) =
+    (given, later, rw all (rw (some_more blobs used more) at at), h)
+
+-- the bytes were read to their end inside a geometry, or after one
+pub went_on : {start_rows in_rows : List BufferRow} {start_points in_points : List BufferPoint}
+    {given later : List Tree} {new : Session} {taken : Taken} (blobs : List ℕ) (used more : ℕ)
+    → more ≡ length (rest_of blobs used) → Stands (take used blobs ++ rest_of blobs used)
+    (given ++ later) new → HasTaken start_rows start_points given later in_rows in_points taken
+    → IsReading start_rows start_points (take (used + more) blobs) in_rows in_points new taken
+went_on {given = given} {later = later} blobs used more all at h =
+    let piece = rest_of blobs used in
+    let whole : take used blobs ++ piece ≡ take (used + more) blobs =
+    ap (λ (b : List ℕ). take used blobs ++ b) (sym (take_all more piece (omega arith)))
+    ∙ some_more blobs used more in
+    (given, later, rw whole at at, h)
+
+-- a feed with which a geometry ended
+pub fed_whole : (bytes : List ℕ) (gs : List Tree) (piece : List ℕ) (n : ℕ) (ends : Bool) (s : Session)
+    → FedFlat bytes gs piece (Ok (n, ends)) s → ends ≡ true
+    → (g : Tree) × FedSession bytes gs piece (Ok (n, Some g)) s × (session_rows s ≡ rows 0 g)
+fed_whole bytes gs piece n true s fed e = fed
+fed_whole bytes gs piece n false s fed e = absurd (false≢true e)
+
+-- a feed with which none ended
+pub fed_all : (bytes : List ℕ) (gs : List Tree) (piece : List ℕ) (n : ℕ) (ends : Bool) (s : Session)
+    → FedFlat bytes gs piece (Ok (n, ends)) s → ends ≡ false → (n ≡ length piece) × Stands (bytes ++ piece) gs s
+fed_all bytes gs piece n false s fed e = fed
+fed_all bytes gs piece n true s fed e = absurd (false≢true (sym e))
+
+-- the end of a session is the end of the reading of all bytes
+pub ended : {A : Type 0} (l : Allowance) (blobs : List ℕ) (used : ℕ) (gs : List Tree) (s : Session)
+    (answer : Result A BlobFault) → length blobs ≤ used → session_limits s ≡ l
+    → Finished (session_limits s) (take used blobs) gs answer → EndsReading l blobs gs answer
+ended l blobs used gs s answer all limits f =
+    finished l blobs gs answer (rw (take_all used blobs all, limits) at f)

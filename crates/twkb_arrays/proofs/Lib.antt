@@ -1,10 +1,5 @@
 pub mod ArrayLemmas
 pub mod TakingLemmas
-pub mod GatheringLemmas
-pub mod JudgingLemmas
 pub mod ReadingLaws
-pub mod ReadingLemmas
-pub mod RoomLemmas
 pub mod WritingLemmas
 pub mod WritingLaws
-pub mod TableReasons

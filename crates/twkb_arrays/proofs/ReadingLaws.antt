@@ -7,7 +7,7 @@ use Rattle.twkb_io.specs.declared.TheConstants.{MAX_BYTES}
 use Rattle.twkb_tree.specs.Tree.{Tree}
 use Rattle.twkb_tree.specs.Limits.{Allowance}
 use Rattle.twkb_tree.specs.Rows.{rows_of}
-use Rattle.twkb_grammar.specs.Blob.{Stream}
+use Rattle.twkb_grammar.specs.Items.{Stream}
 use Rattle.twkb_grammar.specs.Fault.{StreamFault}
 use Rattle.twkb_grammar.specs.Fault as grammar
 use Rattle.twkb_grammar.proofs.Streams.{no_stream, one_stream, one_stream_fault}
@@ -19,18 +19,17 @@ use Rattle.twkb_blob.specs.declared.fault.BlobFault.TheVariants as fault
 use Rattle.twkb_convert.specs.Outputs.{table_text}
 use Rattle.twkb_convert.specs.declared.report.Cause.{Cause}
 use Rattle.twkb_convert.specs.declared.report.Cause.TheVariants as cause
-use Rattle.twkb_buffer.specs.Calls.{IsRefusal}
+use Rattle.twkb_buffer.specs.Calls.{IsRefusal, Tells}
 use Rattle.twkb_buffer.specs.Numbers.{blob_number_of}
-use Rattle.twkb_buffer.specs.Reports.{Tells}
 use Rattle.twkb_buffer.specs.Slices.{UnpackedFront, UnpackedSlice}
 use Rattle.twkb_buffer.specs.declared.report.BufferReport.{BufferReport}
 use Rattle.twkb_buffer.specs.declared.point.BufferPoint.{BufferPoint}
 use Rattle.twkb_arrays.specs.FilledArrays.{EndsReading, ReadsArrays, outcome_of}
-use Rattle.twkb_arrays.specs.SameRows.{AreSameRows}
-use Rattle.twkb_arrays.specs.Rooms.{are_more}
+use Rattle.twkb_arrays.specs.Rows.{AreSameRows}
+use Rattle.twkb_arrays.specs.SentBlobs.{are_more}
 use Rattle.twkb_arrays.specs.declared.filled_arrays.BufferCounts.{BufferCounts}
 use Rattle.twkb_arrays.specs.declared.row.BufferRow.{BufferRow}
-use Rattle.twkb_arrays.proofs.RoomLemmas.{no_more}
+use Rattle.twkb_arrays.proofs.ArrayLemmas.{no_more}
 
 -- how the reading of a stream may end
 by_answer : (l : Allowance) (bytes : List ℕ) (hs gs : List Tree) (full : Bool)

@@ -9,20 +9,18 @@ use Rattle.std.specs.Prelude.{IsTrue, ◌↔◌, Some, None, ◌==◌, Result, O
 use Rattle.std.proofs.lemmas.Bool.{false≢true, eqb-true}
 use Rattle.twkb_tree.specs.Tree.{Tree, simple, collection, saturated, IsTree}
 use Rattle.twkb_tree.specs.Limits.{Allowance, IsValid}
-use Rattle.twkb_tree.specs.Rows.{Row, rows, rows_of, row_points}
-use Rattle.twkb_tree.specs.RowLists.{AreValidRowsOfOne}
-use Rattle.twkb_tree.proofs.Shapes.{all_push}
+use Rattle.twkb_tree.specs.Rows.{Row, rows, rows_of, row_points, AreValidRowsOfOne}
+use Rattle.twkb_tree.proofs.TreeLemmas.{all_push}
 use Rattle.twkb_tree.proofs.RowLaws.{one_geometry}
 use Rattle.twkb_flat.specs.declared.stop.Stop.{Stop}
-use Rattle.twkb_flat.specs.Stops.{IfRefused}
+use Rattle.twkb_flat.specs.Taking.{IfRefused}
 use Rattle.twkb_flat.specs.declared.stop.Stop.TheVariants as stop
 use Rattle.twkb_grammar.specs.Written.{canonical_blob, canonical_stream}
 use Rattle.twkb_grammar.specs.declared.style.Style.{Style}
 use Rattle.twkb_buffer.specs.Polylines.{coordinates_of}
 use Rattle.twkb_buffer.specs.declared.point.BufferPoint.{BufferPoint}
-use Rattle.twkb_buffer.proofs.PolylineLemmas.{coordinates_of-append}
-use Rattle.twkb_arrays.specs.Rooms.{Fit}
-use Rattle.twkb_arrays.specs.SentBlobs.{HasSent, IsSentWithin, IsStreamIn, LacksBytes, Sends, SendsOne}
+use Rattle.twkb_buffer.proofs.RunLemmas.{coordinates_of-append}
+use Rattle.twkb_arrays.specs.SentBlobs.{Fit, HasSent, IsSentWithin, IsStreamIn, LacksBytes, Sends, SendsOne}
 use Rattle.twkb_arrays.specs.declared.sent_blobs.Sent.{Sent}
 use Rattle.twkb_arrays.specs.Rows.{rows_in_c, id_flag, id_number, kind_number, point_of, points_of, precision_number}
 use Rattle.twkb_arrays.specs.Rows.{row_in_c}
@@ -31,9 +29,9 @@ use Rattle.twkb_arrays.specs.WrittenArrays.{stopped_at}
 use Rattle.twkb_arrays.specs.declared.row.BufferRow.{BufferRow}
 use Rattle.twkb_arrays.specs.declared.written_arrays.Writer.{Writer}
 use Rattle.twkb_arrays.specs.JudgedRow.{AcceptedAfter, HasRightId, id_of, is_no_precision, precision_of, RefusedAfter}
-use Rattle.twkb_arrays.specs.LoneRow.{BeginWithRoot, IsMadeFirst}
-use Rattle.twkb_arrays.proofs.ArrayLemmas.{laid_length, laid_next, row_points-append}
-use Rattle.twkb_arrays.proofs.RoomLemmas.{comes_after, has_none, has_room, no_more, one_after}
+use Rattle.twkb_arrays.specs.JudgedRow.{BeginWithRoot, IsMadeFirst}
+use Rattle.twkb_arrays.proofs.ArrayLemmas.{laid_length, laid_next, row_points-append, comes_after, has_none, has_room}
+use Rattle.twkb_arrays.proofs.ArrayLemmas.{no_more, one_after}
 use Rattle.twkb_arrays.proofs.TakingLemmas.{rows_of-more}
 
 -- ==== Blobs that are written into a slice one after another.

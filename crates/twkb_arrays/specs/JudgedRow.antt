@@ -1,18 +1,29 @@
 -- The row of a geometry that a row of an array stands for, and the reason to refuse it (profile).
-use Rattle.std.specs.Prelude.{◌≡◌, ℕ, ◌+◌, ◌<◌, ◌≤◌, ◌==◌, ◌⊎◌, ℤ, pos, negsuc, List, length, take, reverse}
-use Rattle.std.specs.Prelude.{Option, Some, None, Bool, false, if◌then◌else◌, ⊤, [], ◌∷◌, ◌^◌}
+use Rattle.std.specs.Prelude.{◌≡◌, ℕ, ◌+◌, ◌<◌, ◌≤◌, ◌==◌, ◌⊎◌, ℤ, pos, negsuc, List, length, take, reverse, Option}
+use Rattle.std.specs.Prelude.{Some, None, Bool, false, if◌then◌else◌, ⊤, [], ◌∷◌, ◌^◌, MatchOption}
 use Rattle.twkb_tree.specs.declared.kind.Kind.{Kind}
-use Rattle.twkb_tree.specs.Accepted.{Accepts}
-use Rattle.twkb_tree.specs.Limits.{Allowance}
-use Rattle.twkb_tree.specs.Refusal.{are_in_range, refusal}
+use Rattle.twkb_tree.specs.Admits.{Accepts}
+use Rattle.twkb_tree.specs.Limits.{Allowance, IsValid}
+use Rattle.twkb_tree.specs.Refusal.{are_in_range, refusal, Check, first_failed}
 use Rattle.twkb_tree.specs.declared.row_checks.Refusal.{Refusal}
 use Rattle.twkb_tree.specs.declared.row_checks.Refusal.TheVariants.{CoordinateRange}
-use Rattle.twkb_tree.specs.Rows.{Row}
-use Rattle.twkb_table.specs.RowRules.{rule_reason}
+use Rattle.twkb_tree.specs.Rows.{Row, rows}
+use Rattle.twkb_table.specs.Judged.{rule_reason}
 use Rattle.twkb_buffer.specs.Numbers.{row_number_of}
 use Rattle.twkb_buffer.specs.declared.point.BufferPoint.{BufferPoint}
 use Rattle.twkb_arrays.specs.Rows.{kind_number, point_of, points_of}
 use Rattle.twkb_arrays.specs.declared.row.BufferRow.{BufferRow}
+use Rattle.twkb_points.specs.Point.{Point, IsInRange, AreInRange}
+use Rattle.twkb_tree.specs.declared.row_place.RowPlace.{RowPlace}
+use Rattle.twkb_tree.specs.Open.{row_checks}
+use Rattle.twkb_table.specs.declared.reason.RowReason.{RowReason}
+use Rattle.twkb_tree.specs.Tree.{Tree, IsPrecision}
+use Rattle.twkb_grammar.specs.Written.{canonical_blob}
+use Rattle.twkb_grammar.specs.declared.style.Style.{Style}
+use Rattle.twkb_buffer.specs.Polylines.{coordinates_at}
+
+-- ==== The row of a geometry that a row of an array stands for, and the reason to refuse it
+-- (profile).
 
 -- the id of a row, if it has one
 abbrev pub id_of : BufferRow → Option ℤ
@@ -83,3 +94,80 @@ AcceptedAfter l rs row ahead r =
 abbrev pub AreBelow : List ℕ → Type 0
 AreBelow [] = ⊤
 AreBelow (n ∷ ns) = (n < 2 ^ 63) × AreBelow ns
+
+-- ==== The tests of a row at its place, and the reason of the first that fails.
+
+-- all tests of a row at its place
+abbrev pub checks_there : Allowance → RowPlace → Row → List Check
+checks_there l s r = row_checks (are_in_range r.points) l s r
+
+-- a test failed, and the reason is its own
+abbrev pub IsReasonOf : Option Refusal → RowReason → Type 0
+IsReasonOf failed reason = (why : Refusal) × (failed ≡ Some why) × (reason ≡ rule_reason why)
+
+-- the reason to refuse a row with these points of which all else is right
+abbrev pub range_refusal : List Point → Option Refusal
+range_refusal ps = if are_in_range ps then None else Some CoordinateRange
+
+-- the reason of the first test that fails, if one fails besides that of the points' range
+abbrev pub IsFirstButRange : List Check → List Point → Option RowReason → Type 0
+IsFirstButRange checks ps answer =
+    MatchOption answer (first_failed checks ≡ range_refusal ps) (IsReasonOf (first_failed checks))
+
+-- ==== A row that is a whole geometry, and its blob.
+
+-- The row is a root with a precision and no id, its points are among those ahead, and the limits allow it.
+pub record BeginsAlone (l : Allowance) (row : BufferRow) (ahead : List BufferPoint) : Type 0 where
+  pub is_root : row.depth ≡ 0
+  pub has_no_id : row.has_id ≡ 0
+  pub id_is : row.id ≡ pos 0
+  pub has_precision : IsPrecision row.precision
+  pub enough : row.points ≤ length ahead
+  pub nodes_left : 0 < l.nodes
+  pub points_left : row.points ≤ l.points
+
+-- Such a row is that of a point with its one point: this one, the first of those ahead.
+pub record BeginsPoint (l : Allowance) (row : BufferRow) (ahead : List BufferPoint) (p : Point) : Type 0 where
+  pub alone : BeginsAlone l row ahead
+  pub is_point : row.kind ≡ 1
+  pub has_one : row.points ≡ 1
+  pub first : take 1 ahead ≡ coordinates_at p ∷ []
+  pub in_range : IsInRange p
+
+-- Such a row is that of a linestring.
+pub record BeginsLine (l : Allowance) (row : BufferRow) (ahead : List BufferPoint) : Type 0 where
+  pub alone : BeginsAlone l row ahead
+  pub is_line : row.kind ≡ 2
+
+-- The row is that of a valid geometry with this many of the points ahead, and these are the bytes of its blob.
+pub record IsMadeAlone (l : Allowance) (style : Style) (row : BufferRow) (ahead : List BufferPoint)
+    (count : ℕ) (blob : List ℕ) : Type 0 where
+  pub is_root : row.depth ≡ 0
+  pub geometry : Tree
+  pub valid : IsValid l geometry
+  pub only_row : Row
+  pub row_is : rows 0 geometry ≡ only_row ∷ []
+  pub accepted : AcceptedAfter l [] row ahead only_row
+  pub count_is : count ≡ row.points
+  pub blob_is : blob ≡ canonical_blob style geometry
+
+-- the first of the rows is a root
+abbrev pub BeginWithRoot : List BufferRow → Type 0
+BeginWithRoot [] = ⊥
+BeginWithRoot (row ∷ more) = row.depth ≡ 0
+
+-- The first of the rows ahead is a whole geometry, since a root comes after it, and these are the
+-- bytes of its blob.
+pub record IsMadeFirst (l : Allowance) (style : Style) (rows_ahead : List BufferRow) (ahead : List BufferPoint)
+    (count : ℕ) (blob : List ℕ) : Type 0 where
+  pub row : BufferRow
+  pub more : List BufferRow
+  pub rows_are : rows_ahead ≡ row ∷ more
+  pub whole : BeginWithRoot more
+  pub made : IsMadeAlone l style row ahead count blob
+
+-- ==== The points of a row that are appended to a form.
+
+-- a point is out of range, and the number is that of this reason
+abbrev pub AreOutOfRange : List Point → ℕ → Type 0
+AreOutOfRange ps number = (AreInRange ps → ⊥) × (number ≡ refusal_number CoordinateRange)

@@ -1,15 +1,7 @@
-pub mod Blobs
+pub mod SentBlobs
 pub mod FilledArrays
 pub mod JudgedRow
-pub mod LoneRow
-pub mod OwnPoints
 pub mod ReadBack
-pub mod Rooms
-pub mod RowTests
 pub mod Rows
-pub mod SameRows
 pub mod Samples
-pub mod SentBlobs
-pub mod Status
-pub mod TakenGeometries
 pub mod WrittenArrays

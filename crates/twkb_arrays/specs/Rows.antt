@@ -1,5 +1,6 @@
 -- The rows and points of geometries in C's layout (profile).
-use Rattle.std.specs.Prelude.{ℕ, ℤ, pos, negsuc, ◌<◌, ◌≤◌, ◌⊎◌, List, length, map, Option, Some, None}
+use Rattle.std.specs.Prelude.{ℕ, ℤ, pos, negsuc, ◌<◌, ◌≤◌, ◌⊎◌, List, length, map, Option, Some, None, ◌≡◌, ◌∷◌, ◌++◌}
+use Rattle.std.specs.Prelude.{drop, Bool, true, false}
 use Rattle.twkb_points.specs.Point.{Point, point_at}
 use Rattle.twkb_tree.specs.declared.kind.Kind.{Kind}
 use Rattle.twkb_tree.specs.declared.kind.Kind.TheVariants as kind
@@ -8,6 +9,10 @@ use Rattle.twkb_tree.specs.Rows.{Row, rows_of, row_points}
 use Rattle.twkb_buffer.specs.Polylines.{coordinates_of}
 use Rattle.twkb_buffer.specs.declared.point.BufferPoint.{BufferPoint}
 use Rattle.twkb_arrays.specs.declared.row.BufferRow.{BufferRow}
+use Rattle.twkb_table.specs.Record.{header, record_of}
+use Rattle.twkb_table.specs.Text.{csvtext}
+
+-- ==== The rows and points of geometries in C's layout (profile).
 
 -- the number of a kind: that of its type (TWKB, type and precision), and 8 for a ring
 abbrev pub kind_number : Kind → ℕ
@@ -75,3 +80,21 @@ point_of coordinates = point_at coordinates.x coordinates.y
 -- the points with these coordinates
 abbrev pub points_of : List BufferPoint → List Point
 points_of coordinates = map point_of coordinates
+
+-- ==== The rows of a table's text and of arrays.
+
+-- The text is that of a table of these rows, below its header, and two arrays begin with the rows
+-- and with their points.
+pub record AreSameRows (text : List ℕ) (old_rows : List BufferRow) (old_points : List BufferPoint)
+    (new_rows : List BufferRow) (new_points : List BufferPoint) : Type 0 where
+  pub rs : List Row
+  pub text_is : text ≡ csvtext (header ∷ map record_of rs)
+  pub rows_are : new_rows ≡ rows_in_c rs ++ drop (length rs) old_rows
+  pub points_are : new_points ≡ coordinates_of (row_points rs) ++ drop (length (row_points rs)) old_points
+
+-- ==== The status of a call that had too little room.
+
+-- the status, the reason and the place: 5 and none if there was too little room
+abbrev pub unless_full : Bool → ℕ × ℕ × ℕ → ℕ × ℕ × ℕ
+unless_full true outcome = (5, 0, 0)
+unless_full false outcome = outcome

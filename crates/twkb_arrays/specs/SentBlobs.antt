@@ -1,10 +1,39 @@
--- The blobs of geometries that were written into a slice.
-use Rattle.std.specs.Prelude.{◌≡◌, ℕ, ◌<◌, ◌≤◌, List, [], ◌∷◌, ◌++◌, length, drop}
+-- The blobs of geometries that are written into a slice, as far as there is room.
+use Rattle.std.specs.Prelude.{◌≡◌, ℕ, List, [], ◌∷◌, ◌++◌, length, Bool, true, false, ⊤, ◌<◌, ◌≤◌, drop}
 use Rattle.twkb_tree.specs.Tree.{Tree, saturated}
+use Rattle.twkb_io.specs.Bytes.{bytes_of}
+use Rattle.twkb_arrays.specs.declared.blob_room.BlobRoom.{BlobRoom}
 use Rattle.twkb_grammar.specs.Written.{canonical_blob, canonical_stream}
 use Rattle.twkb_grammar.specs.declared.style.Style.{Style}
-use Rattle.twkb_arrays.specs.Rooms.{Fit}
 use Rattle.twkb_arrays.specs.declared.sent_blobs.Sent.{Sent}
+
+-- ==== The geometries for which there was room, and those after them.
+
+-- there is no room for the first of some more geometries, if there are more
+abbrev pub StopsBefore : (List Tree → Type 0) → List Tree → List Tree → Type 0
+StopsBefore lacks given [] = ⊤
+StopsBefore lacks given (g ∷ later) = lacks (given ++ g ∷ [])
+
+-- whether there are more geometries
+abbrev pub are_more : List Tree → Bool
+are_more [] = false
+are_more (g ∷ later) = true
+
+-- There was room for the geometries in `given`, whose number is `done`, and not for the first of
+-- those in `later`, if there are any; `full` is whether there are.
+pub record Fit (lacks : List Tree → Type 0) (given later : List Tree) (full : Bool)
+    (done : ℕ) : Type 0 where
+  pub stops : StopsBefore lacks given later
+  pub full_is : full ≡ are_more later
+  pub done_is : done ≡ length given
+
+-- ==== The blob that is in a room.
+
+-- the blob that was made last
+abbrev pub blob_in : BlobRoom → List ℕ
+blob_in room = bytes_of room.bytes
+
+-- ==== The blobs of geometries that were written into a slice.
 
 -- the slice has no room for the stream of these geometries
 abbrev pub LacksBytes : Style → List ℕ → List Tree → Type 0

@@ -2,8 +2,7 @@
 use Rattle.std.specs.Prelude.{◌≡◌, ℕ, ◌<◌, List, [], ◌∷◌, ◌++◌, length, Bool, ◌⊎◌, Result, Ok, Err, if◌then◌else◌}
 use Rattle.twkb_tree.specs.Tree.{Tree, saturated}
 use Rattle.twkb_tree.specs.Limits.{Allowance}
-use Rattle.twkb_tree.specs.Rows.{Row, rows_of, row_points}
-use Rattle.twkb_tree.specs.RowLists.{AreValid, AreValidRowsOfOne}
+use Rattle.twkb_tree.specs.Rows.{Row, rows_of, row_points, AreValid, AreValidRowsOfOne}
 use Rattle.twkb_flat.specs.declared.stop.Stop.{Stop}
 use Rattle.twkb_flat.specs.declared.stop.Stop.TheVariants as stop
 use Rattle.twkb_grammar.specs.Written.{canonical_stream}
@@ -12,10 +11,8 @@ use Rattle.twkb_buffer.specs.Polylines.{coordinates_of}
 use Rattle.twkb_buffer.specs.declared.point.BufferPoint.{BufferPoint}
 use Rattle.twkb_buffer.specs.declared.report.BufferReport.{BufferReport}
 use Rattle.twkb_arrays.specs.JudgedRow.{RefusedAfter, index_outside}
-use Rattle.twkb_arrays.specs.Rooms.{StopsBefore, are_more}
-use Rattle.twkb_arrays.specs.Rows.{array_points, array_rows, rows_in_c}
-use Rattle.twkb_arrays.specs.SentBlobs.{HasSent, IsStreamIn, LacksBytes}
-use Rattle.twkb_arrays.specs.Status.{unless_full}
+use Rattle.twkb_arrays.specs.SentBlobs.{StopsBefore, are_more, HasSent, IsStreamIn, LacksBytes}
+use Rattle.twkb_arrays.specs.Rows.{array_points, array_rows, rows_in_c, unless_full}
 use Rattle.twkb_arrays.specs.declared.row.BufferRow.{BufferRow}
 use Rattle.twkb_arrays.specs.declared.sent_blobs.Sent.{Sent}
 use Rattle.twkb_arrays.specs.declared.written_arrays.Writer.{Writer}

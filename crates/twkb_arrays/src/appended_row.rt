@@ -1,8 +1,7 @@
 //! A row of an array with its points, appended to the form of its geometry.
 ghost use Rattle.std.specs.Prelude.{◌≡◌, ◌≤◌, ◌++◌, ◌∷◌, [], length, IfOk, IfErr, OnErr};
-ghost use Rattle.twkb_tree.specs.Rows.{Row as TableRow};
-ghost use Rattle.twkb_tree.specs.RowLists.{AreValidRowsOfOne};
-ghost use Rattle.twkb_flat.specs.Stops.{IfRefused};
+ghost use Rattle.twkb_tree.specs.Rows.{Row as TableRow, AreValidRowsOfOne};
+ghost use Rattle.twkb_flat.specs.Taking.{IfRefused};
 ghost use Rattle.twkb_arrays.specs.JudgedRow.{AcceptedAfter, RefusedAfter};
 
 use crate::judged_row::{bare_row, has_right_id, kind_of, refused, refused_row};

@@ -5,8 +5,7 @@ ghost use Rattle.twkb_tree.specs.declared.limits.TheConstants.{POINTS_CAP};
 ghost use Rattle.twkb_tree.specs.Tree.{Tree, IsPrecision, IsTree};
 ghost use Rattle.twkb_tree.specs.Rows.{rows};
 ghost use Rattle.twkb_grammar.specs.Written.{canonical_blob};
-ghost use Rattle.twkb_writer.specs.LineBlob.{one_line};
-ghost use Rattle.twkb_writer.specs.PointBlob.{one_point};
+ghost use Rattle.twkb_writer.specs.Bytes.{one_line, one_point};
 ghost use Rattle.twkb_arrays.specs.Rows.{points_of};
 
 use crate::own_points::PointsInRange;
@@ -28,7 +27,7 @@ pub(crate) struct BlobRoom {
 }
 
 impl BlobRoom {
-    ghost use Rattle.twkb_arrays.specs.Blobs.{blob_in};
+    ghost use Rattle.twkb_arrays.specs.SentBlobs.{blob_in};
 
     // Makes a room without a blob, which grows as blobs need it. Takes no memory.
     pub(crate) fn new(alloc: Global) -> BlobRoom {

@@ -4,9 +4,8 @@ ghost use Rattle.twkb_tree.specs.Tree.{Tree};
 ghost use Rattle.twkb_buffer.specs.declared.point.BufferPoint.{BufferPoint as InPoint};
 ghost use Rattle.twkb_blob.specs.Sessions.{Stands, session_limits};
 ghost use Rattle.twkb_arrays.specs.declared.row.BufferRow.{BufferRow as InRow};
-ghost use Rattle.twkb_arrays.specs.TakenGeometries.{HasTaken, IsWithin};
-ghost use Rattle.twkb_arrays.specs.FilledArrays.{CountsAs, EndsReading, IsReading, ReadsArrays, StopsReading};
-ghost use Rattle.twkb_arrays.specs.FilledArrays.{outcome_of};
+ghost use Rattle.twkb_arrays.specs.FilledArrays.{HasTaken, IsWithin, CountsAs, EndsReading, IsReading, ReadsArrays};
+ghost use Rattle.twkb_arrays.specs.FilledArrays.{StopsReading, outcome_of};
 
 use crate::row::BufferRow;
 use crate::status::unless_full;

@@ -3,14 +3,14 @@ ghost use Rattle.std.specs.Prelude.{◌≡◌, ◌↔◌, ◌<◌, ◌^◌, [], 
 ghost use Rattle.twkb_points.specs.Point.{IsCoordinate, IsInRange};
 ghost use Rattle.twkb_tree.specs.declared.kind.Kind.{Kind};
 ghost use Rattle.twkb_tree.specs.Refusal.{are_in_range};
-ghost use Rattle.twkb_tree.specs.RowPlace.{points_checks};
+ghost use Rattle.twkb_tree.specs.Open.{points_checks};
 ghost use Rattle.twkb_flat.specs.Rows.{row_with};
 ghost use Rattle.twkb_flat.specs.declared.stop.Stop.TheVariants.{Refused};
 ghost use Rattle.twkb_buffer.specs.Numbers.{row_number_of};
 ghost use Rattle.twkb_buffer.specs.declared.point.BufferPoint.{BufferPoint as InPoint};
 ghost use Rattle.twkb_arrays.specs.Rows.{kind_number, point_of, points_of};
 ghost use Rattle.twkb_arrays.specs.JudgedRow.{AreBelow, HasRightId, in_range_front, index_outside, row_from_c};
-ghost use Rattle.twkb_arrays.specs.RowTests.{IsFirstButRange, checks_there};
+ghost use Rattle.twkb_arrays.specs.JudgedRow.{IsFirstButRange, checks_there};
 
 use crate::row::{BufferRow, NO_PRECISION};
 use std::simd::u64x2;

@@ -9,14 +9,12 @@ ghost use Rattle.twkb_tree.specs.Refusal.{refusal};
 ghost use Rattle.twkb_tree.specs.declared.row_checks.Refusal.{Refusal};
 ghost use Rattle.twkb_tree.specs.declared.row_checks.Refusal.TheVariants.{CoordinateRange, TooManyPoints};
 ghost use Rattle.twkb_tree.specs.Rows.{Row as TableRow};
-ghost use Rattle.twkb_table.specs.Judged.{Judged, Refused, Verdict};
+ghost use Rattle.twkb_table.specs.Judged.{Judged, Refused, Verdict, rule_reason};
 ghost use Rattle.twkb_table.specs.Record.{record_of};
-ghost use Rattle.twkb_table.specs.RowRules.{rule_reason};
-ghost use Rattle.twkb_grammar.specs.Blob.{Stream};
+ghost use Rattle.twkb_grammar.specs.Items.{Stream};
 ghost use Rattle.twkb_grammar.specs.declared.style.Style.{Style};
 ghost use Rattle.twkb_convert.specs.declared.report.Cause.{Cause};
-ghost use Rattle.twkb_buffer.specs.Calls.{IsRefusal};
-ghost use Rattle.twkb_buffer.specs.Reports.{Tells};
+ghost use Rattle.twkb_buffer.specs.Calls.{IsRefusal, Tells};
 ghost use Rattle.twkb_buffer.specs.Slices.{UnpackedFront, UnpackedSlice};
 ghost use Rattle.twkb_buffer.specs.declared.point.BufferPoint.{BufferPoint as InPoint};
 ghost use Rattle.twkb_buffer.specs.declared.report.BufferReport.{BufferReport as InReport};
@@ -24,7 +22,7 @@ ghost use Rattle.twkb_arrays.specs.declared.row.BufferRow.{BufferRow as InRow};
 ghost use Rattle.twkb_arrays.specs.declared.filled_arrays.BufferCounts.{BufferCounts as InCounts};
 ghost use Rattle.twkb_arrays.specs.ReadBack.{Arrays, BeginAs, IsRoundTrip};
 ghost use Rattle.twkb_arrays.specs.FilledArrays.{ReadsArrays};
-ghost use Rattle.twkb_arrays.specs.SameRows.{AreSameRows};
+ghost use Rattle.twkb_arrays.specs.Rows.{AreSameRows};
 ghost use Rattle.twkb_arrays.specs.WrittenArrays.{AreArrays, WritesArrays};
 
 /// If at most 2^62 bytes are a stream, the geometries that `read_arrays` reads from them are those

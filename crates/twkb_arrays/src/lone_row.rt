@@ -1,8 +1,8 @@
 //! The blob of a row that is a whole geometry, made without a form.
 ghost use Rattle.std.specs.Prelude.{◌≡◌, IfOk, IfSome, drop, true};
-ghost use Rattle.twkb_arrays.specs.LoneRow.{BeginWithRoot, BeginsAlone, BeginsLine, BeginsPoint};
-ghost use Rattle.twkb_arrays.specs.LoneRow.{IsMadeAlone, IsMadeFirst};
-ghost use Rattle.twkb_arrays.specs.Blobs.{blob_in};
+ghost use Rattle.twkb_arrays.specs.JudgedRow.{BeginWithRoot, BeginsAlone, BeginsLine, BeginsPoint, IsMadeAlone};
+ghost use Rattle.twkb_arrays.specs.JudgedRow.{IsMadeFirst};
+ghost use Rattle.twkb_arrays.specs.SentBlobs.{blob_in};
 
 use crate::blob_room::BlobRoom;
 use crate::judged_row::are_in_range;

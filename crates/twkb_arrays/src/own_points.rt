@@ -39,9 +39,9 @@ impl PointList for PointsInRange<'_> {
 impl PointSource for OwnPoints<'_> {
     ghost use Rattle.std.specs.Prelude.{◌≡◌};
     ghost use Rattle.twkb_points.specs.Point.{AreInRange};
-    ghost use Rattle.twkb_flat.specs.Stops.{IfRefused};
+    ghost use Rattle.twkb_flat.specs.Taking.{IfRefused};
     ghost use Rattle.twkb_arrays.specs.Rows.{points_of};
-    ghost use Rattle.twkb_arrays.specs.OwnPoints.{AreOutOfRange};
+    ghost use Rattle.twkb_arrays.specs.JudgedRow.{AreOutOfRange};
 
     type Fault = Stop<u32>;
 

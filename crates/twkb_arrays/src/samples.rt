@@ -1,7 +1,7 @@
 //! Samples of the definitions, checked by computation: bytes, rows and points worked by hand from
 //! TWKB.
 ghost use Rattle.std.specs.Prelude.{◌≡◌, ℕ, List, ◌++◌, drop, take};
-ghost use Rattle.twkb_grammar.specs.Blob.{Stream};
+ghost use Rattle.twkb_grammar.specs.Items.{Stream};
 ghost use Rattle.twkb_grammar.specs.Samples.{standard};
 ghost use Rattle.twkb_grammar.specs.Written.{canonical_stream};
 ghost use Rattle.twkb_grammar.specs.declared.style.Style.TheVariants.{Full};

@@ -1,6 +1,6 @@
 //! The status of a call that had too little room.
 ghost use Rattle.std.specs.Prelude.{◌≡◌};
-ghost use Rattle.twkb_arrays.specs.Status.{unless_full};
+ghost use Rattle.twkb_arrays.specs.Rows.{unless_full};
 
 // This status, reason and place; or, if there was too little room (`full`), status 5 and 0 for the
 // others.

@@ -6,7 +6,7 @@ ghost use Rattle.twkb_buffer.specs.Polylines.{coordinates_of};
 ghost use Rattle.twkb_buffer.specs.declared.point.BufferPoint.{BufferPoint as InPoint};
 ghost use Rattle.twkb_arrays.specs.Rows.{rows_in_c};
 ghost use Rattle.twkb_arrays.specs.declared.row.BufferRow.{BufferRow as InRow};
-ghost use Rattle.twkb_arrays.specs.TakenGeometries.{HasTaken, IsWithin, TakesOne};
+ghost use Rattle.twkb_arrays.specs.FilledArrays.{HasTaken, IsWithin, TakesOne};
 
 use crate::copied_form::put_form;
 use crate::row::BufferRow;

@@ -10,37 +10,35 @@ use Rattle.twkb_tree.specs.Tree.{Tree}
 use Rattle.twkb_tree.specs.Rows.{Row}
 use Rattle.twkb_tree.specs.Limits.{Allowance}
 use Rattle.twkb_grammar.specs.Roles.{Role, End, Item, join}
-use Rattle.twkb_grammar.specs.Blob.{Stream}
+use Rattle.twkb_grammar.specs.Items.{Stream}
 use Rattle.twkb_grammar.specs.Fault.{Part, FirstFault, StreamFault, Truncated}
 use Rattle.twkb_grammar.specs.Machine.{Frame, Phase, AtHeader, Finished, Sums, nothing, sums_after, started}
 use Rattle.twkb_grammar.specs.Machine.{role_at}
 use Rattle.twkb_grammar.specs.Reading as reading
 use Rattle.twkb_grammar.specs.Reading.{open_by, open_after, frame_count}
-use Rattle.twkb_grammar.proofs.Parts.{peel, run_on}
+use Rattle.twkb_grammar.proofs.Parts.{peel, run_on, reached_frames}
 use Rattle.twkb_grammar.proofs.Running.{part_ran, ran_part}
 use Rattle.twkb_grammar.proofs.OneFault.{Beyond, Compared, longer, shorter, same, two_fronts, part_front}
 use Rattle.twkb_grammar.proofs.OneFault.{none_beyond_fault}
 use Rattle.twkb_grammar.proofs.Streams.{no_items, no_stream, one_stream_fault, same_front}
-use Rattle.twkb_grammar.proofs.Frames.{reached_frames}
 use Rattle.twkb_grammar.proofs.Standing.{none_longer}
 use Rattle.twkb_body.specs.Reading.{open_count}
-use Rattle.twkb_body.proofs.Notings.{same_count}
+use Rattle.twkb_body.proofs.Outlines.{same_count}
 use Rattle.twkb_engine.specs.State.{allowance_of, stage_at, sums_of}
 use Rattle.twkb_engine.specs.Collections.{frames_of}
-use Rattle.twkb_engine.specs.Notes.{open_in}
+use Rattle.twkb_engine.specs.Taking.{open_in}
 use Rattle.twkb_engine.specs.Standing.{StandsAt, IsEnd, held_in, offset_in}
-use Rattle.twkb_engine.proofs.Items.{few_open}
+use Rattle.twkb_engine.proofs.Items.{few_open, frames_length}
 use Rattle.twkb_engine.proofs.Steps.{next_role, next_no_end, next_number}
 use Rattle.twkb_body.specs.Outline.{FrameOutline, outline_role}
 use Rattle.twkb_body.proofs.Outlined.{same_role}
-use Rattle.twkb_engine.proofs.Collections.{frames_length}
-use Rattle.twkb_engine.proofs.Feeds.{count_is}
+use Rattle.twkb_engine.proofs.Answering.{count_is}
 use Rattle.twkb_engine.specs.declared.engine.Engine.{Engine}
 use Rattle.twkb_engine.specs.declared.next_item.NextItem.{NextItem}
 use Rattle.twkb_engine.specs.declared.next_item.NextItem.TheVariants as next
 use Rattle.twkb_blob.specs.Sessions.{Stands, HeldOf, FramesOf, AreOpen, begun_by, ended_by, begun_rows, session_limits}
 use Rattle.twkb_blob.specs.declared.session.Session.{Session}
-use Rattle.twkb_blob.proofs.Standing.{fault_at, none_at, so_many}
+use Rattle.twkb_blob.proofs.Answering.{fault_at, none_at, so_many}
 
 -- ---- headers less ends
 

@@ -1,7 +1,8 @@
 -- The turns of a call that reads a blob of an input, piece by piece.
-use Rattle.std.proofs.Common.{◌≡◌, ℕ, ◌+◌, ◌≤◌, List, [], ◌++◌, length, take, length-append, Bool, true, false, Ok}
-use Rattle.std.proofs.Common.{arith, ◌-◌, ◌<◌, drop, take-append-drop, refl, sym, ap, ◌∙◌, subst, Result, Err, ◌∷◌}
-use Rattle.std.proofs.Common.{get_or, inl, inr, ◌≢◌, append_assoc, nat_eq, Option, Some, None, append-nil}
+use Rattle.std.proofs.Common.{◌≡◌, ℕ, zero, suc, ◌<◌, ◌≤◌, List, [], ◌∷◌, length, set, get_or, refl, ap, ◌∙◌, arith}
+use Rattle.std.proofs.Common.{◌+◌, ◌++◌, take, length-append, Bool, true, false, Ok, ◌-◌, drop, take-append-drop, sym}
+use Rattle.std.proofs.Common.{subst, Result, Err, inl, inr, ◌≢◌, append_assoc, nat_eq, Option, Some, None, append-nil}
+use Rattle.twkb_grammar.specs.Noting.{changed_at, Notes}
 use Rattle.std.specs.Prelude.{if◌then◌else◌, IfSome}
 use Rattle.std.proofs.lemmas.List.{length-take-le, length-take, take-append-le, nil_from_length}
 use Rattle.std.proofs.Math.Logic.{∥∥₁_elim, ∥∥₁_map}
@@ -24,22 +25,43 @@ use Rattle.twkb_tree.specs.Rows.{Row}
 use Rattle.twkb_tree.specs.Limits.{Allowance}
 use Rattle.twkb_flat.specs.declared.stop.Stop.TheVariants.{Memory, Refused}
 use Rattle.twkb_flat.specs.declared.stop.Stop.TheVariants as stop
-use Rattle.twkb_grammar.specs.Noting.{Notes}
-use Rattle.twkb_grammar.specs.Blob.{Blob}
+use Rattle.twkb_grammar.specs.Items.{Blob}
 use Rattle.twkb_grammar.specs.Fault.{FirstFault}
-use Rattle.twkb_body.specs.JudgedParts.{IsJudged, PartIn}
-use Rattle.twkb_engine.specs.Standing.{IsAlive, IsAnswer, count_of, StandsAt, IsEnd, IsFed, FedBy, HoldsSpans, TakesAll}
-use Rattle.twkb_engine.specs.Standing.{notes_at, offset_in, RefusedIn}
+use Rattle.twkb_body.specs.HeaderParts.{IsJudged, PartIn}
+use Rattle.twkb_engine.specs.Standing.{IsAlive, IsAnswer, count_of, StandsAt, IsEnd, IsFed, FedBy, HoldsSpans}
+use Rattle.twkb_engine.specs.Standing.{TakesAll, notes_at, offset_in, RefusedIn}
 use Rattle.twkb_engine.specs.declared.engine.Engine.{Engine}
 use Rattle.twkb_engine.specs.State.{allowance_of}
 use Rattle.twkb_engine.specs.Stops.{Stop, reason_of}
-use Rattle.twkb_engine.proofs.Feeds.{count_is}
-use Rattle.twkb_blob.specs.Faults.{fault_of}
-use Rattle.twkb_blob.specs.Feeding.{FedPiece, Feeds, EndsAt, Goes, IsCutAt, Reads, ReadsBlob, ReadsNoBlob, Turns}
+use Rattle.twkb_engine.proofs.Answering.{count_is}
+use Rattle.twkb_blob.specs.Faults.{fault_of, FedPiece, Feeds, EndsAt, Goes, IsCutAt, Reads, ReadsBlob, ReadsNoBlob}
+use Rattle.twkb_blob.specs.Faults.{Turns}
 use Rattle.twkb_blob.specs.Readers.{AreCutOff, HasNone, Left, failed_by_read, told_by}
 use Rattle.twkb_blob.specs.declared.fault.BlobFault.TheVariants.{Device}
 use Rattle.twkb_blob.specs.declared.fault.BlobFault.TheVariants as fault
 use Rattle.twkb_blob.specs.declared.fault.BlobFault.{BlobFault}
+
+-- ==== A list that is changed at a place.
+
+-- the item at the place is set
+changed_set : {A : Type 0} (xs : List A) (i : ℕ) (f : A → A) (d : A) → i < length xs
+    → set xs i (f (get_or xs i d)) ≡ changed_at i f xs
+changed_set [] i f d low = absurd (omega (arith, low))
+changed_set (x ∷ xs) zero f d low = refl
+changed_set (x ∷ xs) (suc i) f d low = ap (λ l. x ∷ l) (changed_set xs i f d (omega (arith, low)))
+
+-- past the end nothing is
+pub changed_past : {A : Type 0} (xs : List A) (i : ℕ) (f : A → A) → length xs ≤ i → xs ≡ changed_at i f xs
+changed_past [] i f past = refl
+changed_past (x ∷ xs) zero f past = absurd (omega (arith, past))
+changed_past (x ∷ xs) (suc i) f past = ap (λ l. x ∷ l) (changed_past xs i f (omega (arith, past)))
+
+-- the item at the place is set to what is made of it
+pub changed_to : {A : Type 0} (xs : List A) (i : ℕ) (f : A → A) (x y : A) → y ≡ f x → x ≡ get_or xs i x → i < length xs
+    → set xs i y ≡ changed_at i f xs
+changed_to xs i f x y is at low = ap (set xs i) (is ∙ ap f at) ∙ changed_set xs i f x low
+
+-- ==== The turns of a call that reads a blob of an input, piece by piece.
 
 -- ==== Engines that some bytes lead to, after a piece and before one.
 

@@ -1,5 +1,3 @@
 pub mod Answering
-pub mod Changing
 pub mod Leading
-pub mod Standing
 pub mod Counts

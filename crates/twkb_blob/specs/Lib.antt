@@ -4,4 +4,3 @@ pub mod Sessions
 pub mod Readers
 pub mod Located
 pub mod StreamReaders
-pub mod Feeding

@@ -4,8 +4,7 @@ use Rattle.std.specs.declared.io.traits.Read.{Ghosts}
 use Rattle.twkb_tree.specs.Tree.{Tree}
 use Rattle.twkb_tree.specs.Rows.{Row, rows}
 use Rattle.twkb_tree.specs.Limits.{Allowance}
-use Rattle.twkb_grammar.specs.Spans.{spans_of_blob}
-use Rattle.twkb_grammar.specs.Noting.{Notes}
+use Rattle.twkb_grammar.specs.Noting.{spans_of_blob, Notes}
 use Rattle.twkb_grammar.specs.declared.span.Span.{Span}
 use Rattle.twkb_io.specs.declared.input.Input.{Input}
 use Rattle.twkb_io.specs.Inputs.{given}

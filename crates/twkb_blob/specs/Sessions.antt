@@ -6,13 +6,13 @@ use Rattle.twkb_tree.specs.Tree.{Tree}
 use Rattle.twkb_tree.specs.Rows.{Row, rows}
 use Rattle.twkb_tree.specs.Limits.{Allowance}
 use Rattle.twkb_grammar.specs.Roles.{Role, Header, End, Item}
-use Rattle.twkb_grammar.specs.Blob.{Stream}
+use Rattle.twkb_grammar.specs.Items.{Stream}
 use Rattle.twkb_grammar.specs.Fault.{StreamFault, Truncated}
 use Rattle.twkb_engine.specs.State.{allowance_of}
-use Rattle.twkb_engine.specs.Notes.{open_in}
+use Rattle.twkb_engine.specs.Taking.{open_in}
 use Rattle.twkb_engine.specs.Standing.{StandsAt, held_in}
 use Rattle.twkb_engine.specs.Stops.{reason_of}
-use Rattle.twkb_body.specs.JudgedParts.{PartIn}
+use Rattle.twkb_body.specs.HeaderParts.{PartIn}
 use Rattle.twkb_io.specs.declared.input.InFault.TheVariants.{TooLong}
 use Rattle.twkb_blob.specs.Faults.{RefusedAt}
 use Rattle.twkb_blob.specs.Readers.{failed_by_read}

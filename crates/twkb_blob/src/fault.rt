@@ -4,8 +4,7 @@ ghost use Rattle.twkb_tree.specs.Rows.{Row};
 ghost use Rattle.twkb_engine.specs.State.{allowance_of};
 ghost use Rattle.twkb_engine.specs.Standing.{StandsAt};
 ghost use Rattle.twkb_blob.specs.Readers.{failed_by_read};
-ghost use Rattle.twkb_blob.specs.Feeding.{EndsAt};
-ghost use Rattle.twkb_blob.specs.Faults.{fault_of};
+ghost use Rattle.twkb_blob.specs.Faults.{EndsAt, fault_of};
 
 use thiserror::Error;
 use twkb_engine::{BlobReason, Engine, Stop};

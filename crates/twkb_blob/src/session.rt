@@ -9,7 +9,7 @@ ghost use Rattle.twkb_engine.specs.Standing.{IsAlive, StandsAt, count_of};
 ghost use Rattle.twkb_engine.specs.Taking.{BeginsAt};
 ghost use Rattle.twkb_blob.specs.Readers.{failed_by_read, IsAbreast, IsTreeOf};
 ghost use Rattle.twkb_blob.specs.Located.{ReadsWith};
-ghost use Rattle.twkb_blob.specs.Feeding.{Feeds};
+ghost use Rattle.twkb_blob.specs.Faults.{Feeds};
 
 use crate::fault::{BlobFault, fault_at, judge_end};
 use crate::reader::Reader;
@@ -255,7 +255,7 @@ impl Session {
     /// Ends the stream: `Ok` if no blob is begun, else `Truncated` at the offset of the item that
     /// is cut or missing; `Spent` after an `Err` or an earlier `finish`. Each later feed and
     /// `finish` return `Spent`. Takes no memory.
-    #[tactic(auto, using(crate::proofs::Standing::finished))]
+    #[tactic(auto, using(crate::proofs::Answering::finished))]
     pub fn finish(&mut self) -> Result<(), BlobFault>
         ensures unread { failed_by_read result ≡ false }
         ensures limits { session_limits self.new ≡ session_limits self.old }

@@ -6,7 +6,7 @@ use Rattle.std.specs.Prelude.{not, ◌+ℤ◌, if◌then◌else◌, get_or, ◌&
 use Rattle.std.proofs.Math.Seq.{take-suc}
 use Rattle.std.proofs.lemmas.List.{length-take-le}
 use Rattle.std.proofs.lemmas.Bool.Decides.{nat_tests}
-use Rattle.twkb_num.specs.Zigzag.{unzigzag_of}
+use Rattle.twkb_num.specs.Spelling.{unzigzag_of}
 use Rattle.twkb_num.specs.Varint.{IsVarint}
 use Rattle.twkb_points.specs.Point.{Point, point_at, origin}
 use Rattle.twkb_tree.specs.Limits.{Allowance}
@@ -15,20 +15,20 @@ use Rattle.twkb_tree.specs.Tree.{Ids}
 use Rattle.twkb_grammar.specs.Machine.{Sums, BodyForm, Head, added, Kind, kind_number, asked, with_option, PointForm}
 use Rattle.twkb_grammar.specs.Machine.{SimpleKind, kind_at}
 use Rattle.twkb_grammar.specs.Noting.{Notes, note_metadata, noted_by}
-use Rattle.twkb_grammar.specs.Roles.{Item, X, Y, Role, Metadata, Size, Box, IsNumber, item, Extended, where_set, Header}
+use Rattle.twkb_grammar.specs.Roles.{Item, X, Y, Role, Metadata, Size, Box, IsNumber, item, Extended, where_set}
+use Rattle.twkb_grammar.specs.Roles.{Header}
 use Rattle.twkb_grammar.specs.Fault.{CoordinateRange, moved, nodes_by, points_by, BadType, TooManyPoints}
 use Rattle.twkb_grammar.specs.Fault.{announces_point}
-use Rattle.twkb_grammar.specs.PlainReader.{unless, objection}
+use Rattle.twkb_grammar.specs.Reading.{unless, objection, Gives}
 use Rattle.twkb_grammar.specs.Bits.{bit}
-use Rattle.twkb_grammar.specs.Reading.{Gives}
 use Rattle.twkb_body.specs.Outline.{Outline, FrameOutline, Wanted, WantedY, OnBody, shut, Stage, OnMetadata, OnOption}
 use Rattle.twkb_body.specs.Outline.{OnEnd, begins, options, OnHeader}
-use Rattle.twkb_body.specs.Reading.{sums_past, Pair, point_after, Outlined, outline_after, change_after}
-use Rattle.twkb_body.specs.Noting.{NotedOutline, notes_in}
+use Rattle.twkb_body.specs.Reading.{sums_past, Pair, point_after, Outlined, outline_after, change_after, NotedOutline}
+use Rattle.twkb_body.specs.Reading.{notes_in}
 use Rattle.twkb_body.specs.Growing.{applied, Takes, header_change, NewRow, own_of, Nothing}
-use Rattle.twkb_body.specs.HeaderParts.{IsNumberPart, bare_head, AreNumberParts}
+use Rattle.twkb_body.specs.HeaderParts.{IsNumberPart, bare_head, AreNumberParts, sides, sized_head, SidesInFront}
+use Rattle.twkb_body.specs.HeaderParts.{BoxInFront, SizeInFront, PartsInFront}
 use Rattle.twkb_body.specs.Front.{NumberInFront}
-use Rattle.twkb_body.specs.OptionalParts.{sides, sized_head, SidesInFront, BoxInFront, SizeInFront, PartsInFront}
 use Rattle.twkb_body.proofs.Outlined.{noted_item, outlined_item, outlined_takes}
 use Rattle.twkb_body.proofs.InFront.{used_join, one_within}
 

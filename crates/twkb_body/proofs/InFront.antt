@@ -1,29 +1,41 @@
 -- Numbers and points at the start of bytes: cut, too long, or complete.
-use Rattle.std.proofs.Common.{◌≡◌, ◌<◌, true, pos, negsuc, arith, ℕ, ◌+◌, ◌-◌, ◌≤◌, List, ◌++◌, length, take, drop, sym}
-use Rattle.std.proofs.Common.{ap, ◌∙◌, subst, append_assoc, [], ◌∷◌, refl, length-append, ℤ, ◌^◌, Some, None}
-use Rattle.std.specs.Prelude.{◌+ℤ◌, Option, IsSome, IfSome, ◌↔◌}
-use Rattle.std.proofs.lemmas.Bool.Decides.{nat_tests}
+use Rattle.std.proofs.Common.{◌≡◌, ℕ, ◌<◌, ◌^◌, pos, negsuc, sym, ap, ◌∙◌, arith, true, ◌+◌, ◌-◌, ◌≤◌, List, ◌++◌}
+use Rattle.std.proofs.Common.{length, take, drop, subst, append_assoc, [], ◌∷◌, refl, length-append, Some, None}
+use Rattle.std.specs.Prelude.{ℤ, ◌+ℤ◌, Option, IsSome, IfSome, ◌↔◌}
 use Rattle.std.proofs.lemmas.Int.{ints}
+use Rattle.twkb_points.specs.declared.point.TheConstants.{COORDINATE_BOUND}
+use Rattle.twkb_points.specs.Point.{IsCoordinate, Point, point_at, IsInRange, moved_by, IsShortStep, origin}
+use Rattle.twkb_num.specs.Spelling.{zigzag_of, unzigzag_of, IsOpen}
+use Rattle.twkb_num.proofs.ZigzagLemmas.{unzigzag_of-zigzag_of}
+use Rattle.std.proofs.lemmas.Bool.Decides.{nat_tests}
 use Rattle.std.proofs.Math.Seq.{take-add, take-append_seam}
 use Rattle.std.proofs.lemmas.List.{length-drop, take_rest, length-take-le}
 use Rattle.twkb_num.specs.Alphabet.{leb_unit, leb_group}
 use Rattle.twkb_num.specs.Answer.{IsAnswer}
-use Rattle.twkb_num.specs.Spelling.{IsOpen}
 use Rattle.twkb_num.specs.declared.partial.Step.TheVariants.{TooLong}
 use Rattle.twkb_num.specs.Varint.{IsVarint, varint_of}
-use Rattle.twkb_num.specs.Zigzag.{zigzag_of, unzigzag_of}
 use Rattle.twkb_num.proofs.VarintLemmas.{open_varint_is, too_long_is, IsVarint-varint_of, some_byte}
-use Rattle.twkb_num.proofs.ZigzagLemmas.{unzigzag_of-zigzag_of}
-use Rattle.twkb_points.specs.declared.point.TheConstants.{COORDINATE_BOUND}
-use Rattle.twkb_points.specs.Point.{IsCoordinate, Point, point_at, IsInRange, moved_by}
-use Rattle.twkb_points.specs.Near.{IsShortStep}
 use Rattle.twkb_points.specs.Steps.{AreStepsTo, IsStepTo, varint_step}
-use Rattle.twkb_grammar.specs.PlainReader.{in_range}
+use Rattle.twkb_grammar.specs.Reading.{in_range}
 use Rattle.twkb_grammar.specs.Fault.{IsCut, IsTooLong}
 use Rattle.twkb_grammar.proofs.Stepping.{in_range_true}
-use Rattle.twkb_body.specs.Front.{NumberInFront, PointInFront, StepsTo, PointsInFront}
+use Rattle.twkb_body.specs.Front.{NumberInFront, PointInFront, StepsTo, PointsInFront, PointHeader, WholePoint}
 use Rattle.twkb_body.specs.Reading.{Pair}
-use Rattle.twkb_body.proofs.Steps.{unzigzag_back}
+
+-- ==== Numbers in zigzag form.
+
+-- a number that has this zigzag form is the number of the form
+pub unzigzag_back : (z : ℤ) (n : ℕ) → zigzag_of z ≡ n → unzigzag_of n ≡ z
+unzigzag_back z n e = ap unzigzag_of (sym e) ∙ unzigzag_of-zigzag_of z
+
+-- a small form is that of a small number
+pub small_step : (z : ℤ) → zigzag_of z < 2 ^ 35 → IsCoordinate z
+small_step (pos k) h =
+    let low : k < COORDINATE_BOUND = omega (arith, h) in (omega (arith, ints), omega (arith, ints, low))
+small_step (negsuc k) h =
+    let low : k < COORDINATE_BOUND = omega (arith, h) in (omega (arith, ints, low), omega (arith, ints))
+
+-- ==== Numbers and points at the start of bytes: cut, too long, or complete.
 
 -- ==== Coordinates in the code.
 
@@ -214,3 +226,25 @@ points_in_front (p ∷ ps) from bytes count (first, rest, all, there, on) = (
   point_in_front from p bytes first there,
   points_in_front ps p (drop first bytes) rest on,
 )
+
+-- ==== A point after a header.
+
+-- a point after a header
+pub behind_header : (bytes : List ℕ) (size : Option ℕ) (header steps : ℕ) (from to : Point)
+    → from ≡ origin → PointHeader bytes size header
+    → PointInFront from (take (length bytes - header) (drop header bytes)) to steps
+    → WholePoint bytes to (header + steps) size
+behind_header bytes size header steps from to start h cut =
+    let p : PointInFront origin (drop header bytes) to steps =
+    subst (λ l. PointInFront origin l to steps) (take_rest bytes header)
+    (subst (λ o. PointInFront o (take (length bytes - header) (drop header bytes)) to steps)
+    start cut) in
+    record {
+      some = omega (arith, p.some);
+      within = omega (arith, h.within, p.within, length-drop header bytes);
+      kind = h.kind;
+      short = h.short;
+      steps = take steps (drop header bytes);
+      whole = take-add header steps bytes ∙ ap (λ l. l ++ take steps (drop header bytes)) h.whole;
+      pair = p.pair;
+    }

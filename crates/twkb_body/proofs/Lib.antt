@@ -2,8 +2,4 @@ pub mod Outlines
 pub mod Outlined
 pub mod PointRuns
 pub mod HeaderParts
-pub mod Notings
 pub mod InFront
-pub mod Admitting
-pub mod Steps
-pub mod WholePoints

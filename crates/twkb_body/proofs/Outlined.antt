@@ -4,24 +4,21 @@ use Rattle.std.proofs.Common.{ap, append_assoc, append-nil, Option, Some, None, 
 use Rattle.std.proofs.Common.{inr, ◌≤◌}
 use Rattle.std.specs.Prelude.{ℤ, map, if◌then◌else◌, Ok, reverse, ◌⊎◌, ◌&&◌, ◌≢◌, Result, Err}
 use Rattle.std.proofs.lemmas.List.{length-map}
-use Rattle.twkb_num.specs.Zigzag.{unzigzag_of}
+use Rattle.twkb_num.specs.Spelling.{unzigzag_of}
 use Rattle.twkb_points.specs.Point.{Point, origin, IsInRange}
 use Rattle.twkb_tree.specs.Tree.{Ids, Tree, Trees, end, ◌▷◌, collection}
 use Rattle.twkb_tree.specs.Rows.{Row, whole_row, first_id, other_ids, rows_with, member_rows, rows, plain_row}
-use Rattle.twkb_tree.specs.Rows.{rows_of_each, ring_rows, polygon_rows}
+use Rattle.twkb_tree.specs.Rows.{rows_of_each, ring_rows, polygon_rows, AreValidRowsOfOne}
 use Rattle.twkb_tree.specs.declared.kind.Kind.TheVariants as kinds
 use Rattle.twkb_tree.specs.Limits.{Allowance, IsValid, IsAllowance, largest_limits}
-use Rattle.twkb_tree.specs.Admits.{steps_to, parent, first_child}
-use Rattle.twkb_tree.specs.Accepted.{Accepts, IsOneRoot, Continues}
-use Rattle.twkb_tree.specs.RowLists.{AreValidRowsOfOne}
+use Rattle.twkb_tree.specs.Admits.{steps_to, parent, first_child, Accepts, IsOneRoot, Continues}
 use Rattle.twkb_tree.specs.RowGrowth.{with_point, point_added, EndsInLine}
 use Rattle.twkb_tree.specs.declared.kind.Kind as row
-use Rattle.twkb_tree.proofs.PointAdded.{point_last}
-use Rattle.twkb_tree.proofs.PointMore.{fits_same}
+use Rattle.twkb_tree.proofs.PointMore.{point_last, fits_same}
 use Rattle.twkb_tree.proofs.LimitLaws.{continued, continues_row, one_valid_front, continues_largest}
 use Rattle.twkb_grammar.specs.Bits.{bit}
 use Rattle.twkb_grammar.specs.Roles.{Role, Extended, Size, Count, End, Item, IsNumber}
-use Rattle.twkb_grammar.specs.PlainReader.{is_exact, objection}
+use Rattle.twkb_grammar.specs.Reading.{is_exact, objection, past_end, ends, Ran, Reached, Gives, Landed, Leads}
 use Rattle.twkb_grammar.specs.Machine.{top, Want, PointForm, LineForm, PolygonForm, MultiPointForm, MultiLineForm}
 use Rattle.twkb_grammar.specs.Machine.{MultiPolygonForm, Kind, SimpleKind, CollectionKind, Head, Frame, snoc, Many}
 use Rattle.twkb_grammar.specs.Machine.{ManyPoints, ManyLines, ManyPolygons, ManyGeometries, Phase, AtHeader, AtMetadata}
@@ -29,26 +26,24 @@ use Rattle.twkb_grammar.specs.Machine.{AtOption, AtCount, AtId, AtBody, AtEnd, F
 use Rattle.twkb_grammar.specs.Machine.{wanting, asked, with_option, members_begin, counted, ended, advanced, Around}
 use Rattle.twkb_grammar.specs.Machine.{within, WantY, BodyForm, depth_of, Sums, nothing, added, sums_after}
 use Rattle.twkb_grammar.specs.Machine.{started, stack_after, Runs, first_count, role_at}
-use Rattle.twkb_grammar.specs.Reading.{past_end, ends, Ran, Reached, Gives, Landed, Leads}
 use Rattle.twkb_grammar.specs.Fault.{moved, Reason, Truncated, BadVarint, FirstFault, IsPart, IsCut, IsTooLong}
 use Rattle.twkb_grammar.specs.Fault.{SizeMismatch}
-use Rattle.twkb_grammar.specs.Blob.{Blob}
+use Rattle.twkb_grammar.specs.Items.{Blob}
 use Rattle.twkb_grammar.specs.Noting.{Notes, no_notes, noted, noted_by}
-use Rattle.twkb_grammar.proofs.Parts.{run_on}
+use Rattle.twkb_grammar.proofs.Parts.{run_on, reached_depth}
 use Rattle.twkb_grammar.proofs.Trees.{tree_runs}
-use Rattle.twkb_tree.proofs.AllJoined.{all_apart}
+use Rattle.twkb_tree.proofs.RowLaws.{all_apart}
 use Rattle.twkb_grammar.proofs.Running.{ran_part, reached_nothing, reached_bytes, reached_on, landed, leads}
 use Rattle.twkb_grammar.proofs.Running.{reached_blob, reached_cut, reached_long, reached_end}
 use Rattle.twkb_grammar.proofs.NotedSpans.{noted-append}
 use Rattle.twkb_grammar.proofs.OneFault.{reached_part, NoEnd, no_size_wrong}
-use Rattle.twkb_grammar.proofs.Frames.{reached_depth}
 use Rattle.twkb_body.specs.Outline.{ids_after, frame_outline, stage_of, outline_of, ids_behind, body_stage, OnHeader}
 use Rattle.twkb_body.specs.Outline.{OnFinished, Outline, outline_role, outline_in, outline_ends, FrameOutline}
 use Rattle.twkb_body.specs.Growing.{id_within, frame_rows, phase_rows, rows_so_far, Nothing, NewRow, applied, own_of}
-use Rattle.twkb_body.specs.Growing.{header_change, kind_with, count_change, stage_change, id_in, change_of, value_rows}
-use Rattle.twkb_body.specs.Growing.{cut_before, Change, NewPoint, Takes}
-use Rattle.twkb_body.specs.Noting.{NotedOutline, notes_in}
-use Rattle.twkb_body.specs.Reading.{Outlined, outline_after, change_after, OutlineLanded, StageFits}
+use Rattle.twkb_body.specs.Growing.{header_change, kind_with, count_change, stage_change, id_in, change_of}
+use Rattle.twkb_body.specs.Growing.{value_rows, cut_before, Change, NewPoint, Takes}
+use Rattle.twkb_body.specs.Reading.{NotedOutline, notes_in, Outlined, outline_after, change_after, OutlineLanded}
+use Rattle.twkb_body.specs.Reading.{StageFits}
 use Rattle.twkb_body.proofs.Outlines.{body_grows, lefts_fit, one_behind, each-snoc, ring-snoc, area_ring}
 use Rattle.twkb_body.proofs.Outlines.{outline_steps, outline_at_ends}
 

@@ -1,32 +1,63 @@
--- The outline after an item, and the change that the item makes to the rows.
-use Rattle.std.proofs.Common.{◌≡◌, ℕ, zero, suc, ◌-◌, Bool, true, false, List, [], ◌∷◌, ◌++◌, refl, ◌∙◌, ap, Some, None}
-use Rattle.std.proofs.Common.{sym, arith, append_assoc, append-nil, Option}
-use Rattle.std.specs.Prelude.{map, if◌then◌else◌, Ok, ℤ, ◌+◌, length}
-use Rattle.twkb_num.specs.Zigzag.{unzigzag_of}
+-- The outline after an item, the change that the item makes to the rows, and the notes of spans.
+use Rattle.std.proofs.Common.{◌≡◌, ℕ, suc, [], ◌∷◌, refl, sym, ap, zero, ◌-◌, Bool, true, false, ◌++◌, ◌∙◌, Some}
+use Rattle.std.proofs.Common.{None, arith, append_assoc, append-nil, Option}
+use Rattle.std.proofs.lemmas.List.{length-map}
+use Rattle.std.specs.Prelude.{List, map, if◌then◌else◌, Ok, ℤ, ◌+◌, length}
+use Rattle.twkb_grammar.specs.Noting.{Notes, note_byte, IsCalm}
+use Rattle.twkb_grammar.specs.Machine.{Frame, Phase, AtHeader, AtOption, AtBody, Finished, Want, Nested, Around, top}
+use Rattle.twkb_grammar.specs.Machine.{within, Body, WantY, Done, closed, opened, body_after, BodyForm, depth_of}
+use Rattle.twkb_grammar.specs.Machine.{PointForm, LineForm, PolygonForm, MultiPointForm, MultiLineForm}
+use Rattle.twkb_grammar.specs.Machine.{MultiPolygonForm, Kind, SimpleKind, Head, snoc, Many, ManyPoints, ManyLines}
+use Rattle.twkb_grammar.specs.Machine.{ManyPolygons, ManyGeometries, AtMetadata, AtCount, AtId, AtEnd, settled, begun}
+use Rattle.twkb_grammar.specs.Machine.{empty_of, wanting, asked, with_option, members_begin, counted, ended, advanced}
+use Rattle.twkb_grammar.specs.Machine.{shape_of}
+use Rattle.twkb_grammar.specs.Reading.{frame_count, is_exact, past_end, ends}
+use Rattle.twkb_body.specs.Outline.{Stage, frame_outline, stage_of, outline_of, ids_behind, ids_after, FrameOutline}
+use Rattle.twkb_body.specs.Outline.{Wanted, WantedY, OnHeader, OnId, OnBody, OnEnd, lefts_of, ids_left, body_stage}
+use Rattle.twkb_body.specs.Outline.{next_ids, shut, listing, begins, options, members_open, many_counted}
+use Rattle.twkb_body.specs.Outline.{outline_ended, outline_advanced, outline_past_end, outline_ends, outline_in}
+use Rattle.twkb_body.specs.Reading.{open_count, note_stage, note_first, IsCalmStage}
+use Rattle.twkb_num.specs.Spelling.{unzigzag_of}
 use Rattle.twkb_points.specs.Point.{Point}
 use Rattle.twkb_tree.specs.Tree.{Ids, Tree, Trees, end, ◌▷◌, collection, simple}
-use Rattle.twkb_tree.specs.Rows.{other_ids, Row, plain_row, whole_row, first_id, rows_of_each, ring_rows, polygon_rows}
-use Rattle.twkb_tree.specs.Rows.{rows_with}
+use Rattle.twkb_tree.specs.Rows.{other_ids, Row, plain_row, whole_row, first_id, rows_of_each, ring_rows}
+use Rattle.twkb_tree.specs.Rows.{polygon_rows, rows_with}
 use Rattle.twkb_tree.specs.RowGrowth.{with_point, point_added}
 use Rattle.twkb_tree.specs.declared.kind.Kind as row
 use Rattle.twkb_tree.specs.declared.kind.Kind.TheVariants as kinds
-use Rattle.twkb_tree.proofs.PointAdded.{point_last}
+use Rattle.twkb_tree.proofs.PointMore.{point_last}
 use Rattle.twkb_grammar.specs.Bits.{bit}
 use Rattle.twkb_grammar.specs.Roles.{Role}
-use Rattle.twkb_grammar.specs.PlainReader.{is_exact}
-use Rattle.twkb_grammar.specs.Machine.{Nested, Around, top, within, Body, Want, WantY, Done, closed, opened}
-use Rattle.twkb_grammar.specs.Machine.{body_after, BodyForm, depth_of, PointForm, LineForm, PolygonForm}
-use Rattle.twkb_grammar.specs.Machine.{MultiPointForm, MultiLineForm, MultiPolygonForm, Kind, SimpleKind, Head, Frame}
-use Rattle.twkb_grammar.specs.Machine.{snoc, Many, ManyPoints, ManyLines, ManyPolygons, ManyGeometries, Phase}
-use Rattle.twkb_grammar.specs.Machine.{AtMetadata, AtOption, AtCount, AtId, AtBody, AtEnd, settled, begun, empty_of}
-use Rattle.twkb_grammar.specs.Machine.{wanting, asked, with_option, members_begin, counted, ended, advanced, shape_of}
-use Rattle.twkb_grammar.specs.Reading.{past_end, ends}
-use Rattle.twkb_body.specs.Outline.{ids_behind, ids_after, FrameOutline, Stage, Wanted, WantedY, OnHeader, OnId, OnBody}
-use Rattle.twkb_body.specs.Outline.{OnEnd, frame_outline, lefts_of, ids_left, body_stage, stage_of, outline_of}
-use Rattle.twkb_body.specs.Outline.{next_ids, shut, listing, begins, options, members_open, many_counted, outline_ended}
-use Rattle.twkb_body.specs.Outline.{outline_advanced, outline_past_end, outline_ends, outline_in}
 use Rattle.twkb_body.specs.Growing.{cut_behind, cut_before, cut, value_rows, phase_rows, applied, list_row}
 use Rattle.twkb_body.specs.Growing.{point_change, stage_change}
+
+-- ==== The notes of spans are determined by the outline.
+
+pub same_note : (ph : Phase) (offset points byte : ℕ) (w : Notes)
+    → note_byte ph offset points byte w ≡ note_stage (stage_of ph) offset points byte w
+same_note (AtBody h f ids (Want d a)) offset points byte w = refl
+same_note _ offset points byte w = refl
+
+pub same_calm : (ph : Phase) → IsCalmStage (stage_of ph) → IsCalm ph
+same_calm (AtOption k h r rs) c = c
+same_calm _ c = tt
+
+pub same_count : (fs : List Frame) (ph : Phase) → frame_count (fs, ph) ≡ open_count (outline_of (fs, ph))
+same_count fs AtHeader = sym (length-map fs frame_outline)
+same_count fs (Finished g) = sym (length-map fs frame_outline)
+same_count fs (AtBody h f ids (Want d a)) = ap suc (sym (length-map fs frame_outline))
+same_count fs _ = ap suc (sym (length-map fs frame_outline))
+
+-- ---- the first of some bytes
+
+module _ (t : Stage) (offset points : ℕ) where
+  -- nothing is noted if no byte adds a note
+  pub silent : (bytes : List ℕ) (w : Notes) → ((byte : ℕ) → note_stage t offset points byte w ≡ w)
+      → note_first t offset points bytes w ≡ w
+  silent [] w h = refl
+  silent (byte ∷ bytes) w h = h byte
+
+-- ==== The outline after an item, and the change that the item makes to the rows.
 
 -- ==== The outline after an item is determined by the outline before it.
 

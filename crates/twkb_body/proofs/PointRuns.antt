@@ -1,42 +1,50 @@
--- Points and ids that are complete at the start of bytes lead on, and so do the bytes up to one for which there is
--- no memory.
-use Rattle.std.proofs.Common.{◌≡◌, ℕ, zero, suc, ◌+◌, ◌-◌, ◌≤◌, List, ◌++◌, length, take, drop, subst, Result, Some, Ok}
-use Rattle.std.proofs.Common.{Err, OnErr, arith, ◌<◌, [], ◌∷◌, refl, sym, ap, ◌∙◌, length-append}
+-- Points and ids that are complete at the start of bytes, and the rows that can take them.
+use Rattle.std.proofs.Common.{◌≡◌, ℕ, zero, suc, ◌+◌, ◌-◌, ◌≤◌, List, ◌++◌, length, take, drop, subst, Result, Some}
+use Rattle.std.proofs.Common.{Ok, Err, OnErr, arith, ◌<◌, [], ◌∷◌, refl, sym, ap, ◌∙◌, length-append, None, inl, inr}
 use Rattle.std.proofs.lemmas.List.{length-take-le, take-take, take-append-le, take_all, take_rest}
-use Rattle.std.specs.Prelude.{Option, ℤ, IsErr}
-use Rattle.twkb_num.specs.Zigzag.{unzigzag_of}
+use Rattle.std.specs.Prelude.{Option, ℤ, IsErr, ◌⊎◌, Bool, true, false}
+use Rattle.twkb_num.specs.Spelling.{unzigzag_of}
 use Rattle.twkb_points.specs.Point.{Point}
 use Rattle.twkb_points.specs.Steps.{AreStepsTo, last_of, varint_step}
-use Rattle.twkb_tree.specs.Limits.{Allowance}
-use Rattle.twkb_tree.specs.Rows.{Row, plain_row, first_id, other_ids, row_points}
-use Rattle.twkb_tree.specs.Tree.{Ids}
+use Rattle.twkb_tree.specs.Limits.{Allowance, IsAllowance, largest_limits}
+use Rattle.twkb_tree.specs.Rows.{Row, plain_row, first_id, other_ids, row_points, AreValidRowsOfOne}
+use Rattle.twkb_tree.specs.Tree.{Ids, flat}
 use Rattle.twkb_tree.specs.RowGrowth.{point_added, EndsInLine, with_point, points_added}
 use Rattle.twkb_tree.specs.declared.kind.Kind.TheVariants as kinds
 use Rattle.twkb_tree.specs.declared.limits.TheConstants.{POINTS_CAP}
-use Rattle.twkb_tree.proofs.PointAdded.{point_last}
-use Rattle.twkb_tree.proofs.RowLaws.{row_points-append}
-use Rattle.twkb_grammar.specs.Roles.{Role, Item, Id}
-use Rattle.twkb_grammar.specs.Fault.{Reason}
+use Rattle.twkb_tree.proofs.PointMore.{point_last}
+use Rattle.twkb_tree.proofs.RowLaws.{row_points-append, row_points-with}
+use Rattle.twkb_grammar.specs.Roles.{Role, Item, Id, X}
+use Rattle.twkb_grammar.specs.Fault.{Reason, moved}
 use Rattle.twkb_grammar.specs.Machine.{Sums, BodyForm, PointForm, MultiPointForm, added}
 use Rattle.twkb_grammar.proofs.OneFault.{NoEnd}
-use Rattle.twkb_body.specs.Outline.{OnOption, OnCount, OnEnd}
-use Rattle.twkb_body.specs.Outline.{Outline, Stage, OnId, OnBody, Wanted}
-use Rattle.twkb_body.specs.Outline.{stage_role, FrameOutline, shut, next_ids}
-use Rattle.twkb_body.specs.Reading.{Outlined, OutlineLanded, Pair, sums_past}
-use Rattle.twkb_body.specs.JudgedParts.{IsJudged, PartIn, IsPastEnds, Passes}
-use Rattle.twkb_body.specs.Growing.{applied, NewPoint, point_change, id_in}
-use Rattle.twkb_body.specs.Noting.{NotedOutline}
+use Rattle.twkb_body.specs.Outline.{OnOption, OnCount, OnEnd, Outline, Stage, OnId, OnBody, Wanted, stage_role}
+use Rattle.twkb_body.specs.Outline.{FrameOutline, shut, next_ids, outline_role}
+use Rattle.twkb_body.specs.Reading.{Outlined, OutlineLanded, Pair, sums_past, NotedOutline, change_after, AtPoint}
+use Rattle.twkb_body.specs.HeaderParts.{IsJudged, PartIn, IsPastEnds, Passes}
+use Rattle.twkb_body.specs.Growing.{applied, NewPoint, point_change, id_in, Change, Nothing, NewRow, Takes, change_of}
+use Rattle.twkb_body.specs.Growing.{Admits}
 use Rattle.twkb_body.specs.Front.{PointInFront, NumberInFront, PointsInFront}
-use Rattle.twkb_body.specs.Head.{head_of, IsHeadAt}
-use Rattle.twkb_body.specs.Running.{HasLists, StageRuns, StageStops, MembersLead, in_list, IdsRun, IdsStop, ListGoesOn}
-use Rattle.twkb_body.specs.Running.{ListStops}
+use Rattle.twkb_body.specs.Header.{head_of, IsHeadAt}
+use Rattle.twkb_body.specs.Running.{HasLists, StageRuns, StageStops, MembersLead, in_list, IdsRun, IdsStop}
+use Rattle.twkb_body.specs.Running.{ListGoesOn, ListStops}
 use Rattle.twkb_body.specs.declared.head.Head.{Head}
 use Rattle.twkb_body.specs.declared.list_points.Taken.{Taken}
-use Rattle.twkb_body.proofs.Outlined.{outlined_part, noted_item, outlined_exact}
-use Rattle.twkb_grammar.proofs.Frames.{item_some}
-use Rattle.twkb_grammar.specs.Roles.{X}
+use Rattle.twkb_body.proofs.Outlined.{outlined_part, noted_item, outlined_exact, outlined_item, outlined_largest}
+use Rattle.twkb_body.proofs.Outlined.{outlined_takes, row_goes_on}
+use Rattle.twkb_grammar.proofs.Parts.{item_some}
 use Rattle.twkb_body.proofs.InFront.{one_front, one_within, used_join, points_in_front}
-use Rattle.twkb_body.proofs.HeaderParts.{noted_x, noted_point, noted_still, noted_join, sums_same}
+use Rattle.twkb_body.proofs.HeaderParts.{noted_x, noted_point, noted_still, noted_join, sums_same, outlined_point}
+use Rattle.twkb_body.proofs.HeaderParts.{point_takes}
+use Rattle.std.proofs.Math.Logic.{∥∥₁_elim}
+use Rattle.std.proofs.Math.Bool.{Bool-set}
+use Rattle.twkb_tree.proofs.OpenLaws.{continues_is, continues_true}
+use Rattle.std.proofs.Props.{props}
+use Rattle.twkb_tree.specs.declared.kind.Kind.{Kind}
+use Rattle.twkb_grammar.specs.Reading.{objection, Gives}
+
+-- ==== Points and ids that are complete at the start of bytes lead on, and so do the bytes up to
+-- one for which there is no memory.
 
 -- ==== The bytes were judged if the ends after an item are passed, or if none comes; and a part that ends in the rest
 -- of a piece ends in the piece.
@@ -482,3 +490,98 @@ pub list_two_stop : {rs : List Row} {most count : ℕ} {from p q : Point} {bytes
 list_two_stop {rs = rs} {most = most} {count = count} {from = from} {p = p} {q = q} {bytes = bytes} some steps =
     list_points_stop (p ∷ q ∷ []) rs most count from bytes (omega arith) (omega (arith, some))
     (points_in_front (p ∷ q ∷ []) from bytes count steps)
+
+-- ==== The rows can take the change of the next item.
+
+-- valid rows have at most as many points as allowed
+few_points : (rs : List Row) → AreValidRowsOfOne largest_limits rs → length (row_points rs) ≤ POINTS_CAP
+few_points [] v = omega arith
+few_points (r ∷ rs) v =
+    let same : length (flat v.0) ≡ length (row_points (r ∷ rs)) = ap (λ xs. length xs)
+    (sym (row_points-with None 0 v.0)) ∙ ap (λ xs. length (row_points xs)) v.2 in
+    let kept = v.1.points_kept in
+    omega (arith, same, kept)
+
+module _ (limits : Allowance) (allowed : IsAllowance limits) where
+  -- rows can take a change that leads to a reader's state
+  pub change_admitted : (bytes : List ℕ) (e : Sums) (o : Outline) (rs : List Row) (c : Change)
+      → Takes c rs → Outlined limits bytes e o (applied c rs) → Admits c rs
+  change_admitted bytes e o rs Nothing t r = tt
+  change_admitted bytes e o rs (NewRow row) t r = row_goes_on limits allowed bytes e o rs row r
+  change_admitted bytes e o rs (NewPoint p) t r =
+      let few = few_points (point_added p rs) (outlined_largest limits allowed bytes e o (point_added p rs) r) in
+      (t, omega (arith, few, one_point_more p rs t))
+
+  -- rows can take the change of an item
+  pub item_admitted : (bytes : List ℕ) (e : Sums) (o : Outline) (rs : List Row) (i : Item)
+      → Outlined limits bytes e o rs → outline_role e o ≡ Some i.role
+      → Gives i.role i.number i.bytes
+      → objection limits e i.role i.number ≡ None → Admits (change_after e i o) rs
+  item_admitted bytes e o rs i r says gives free =
+      change_admitted (bytes ++ i.bytes) (added e i) _ rs (change_after e i o)
+      (outlined_takes limits bytes e o rs (moved e.position i.role i.number) i.number r)
+      (outlined_item limits bytes e o rs i r says gives free)
+
+  -- rows can take the change of a point whose two numbers are taken at once
+  pub point_admitted : AtPoint (Outlined limits) (λ bytes e o change rs. Admits change rs)
+  point_admitted front e gs h f ids lefts rs bytes to r cut =
+      change_admitted (front ++ bytes) _ _ rs _ (point_takes limits front e gs h f ids lefts rs
+      bytes to r cut) (outlined_point limits front e gs h f ids lefts rs bytes to r cut)
+
+-- ---- states of which it is only known that some reader reaches them
+
+-- whether a row is that of a line or a ring
+abbrev is_line : Kind → Bool
+is_line kinds.Linestring = true
+is_line kinds.Ring = true
+is_line _ = false
+
+line_is : (k : Kind) → is_line k ≡ true → (k ≡ kinds.Linestring) ⊎ (k ≡ kinds.Ring)
+line_is kinds.Linestring h = inl refl
+line_is kinds.Ring h = inr refl
+line_is _ h = absurd cc
+
+line_true : (k : Kind) → (k ≡ kinds.Linestring) ⊎ (k ≡ kinds.Ring) → is_line k ≡ true
+line_true k (inl e) = ap is_line e
+line_true k (inr e) = ap is_line e
+
+-- whether the last row is that of a line or a ring
+abbrev ends_line : List Row → Bool
+ends_line [] = false
+ends_line (r ∷ []) = is_line r.kind
+ends_line (r ∷ s ∷ rs) = ends_line (s ∷ rs)
+
+ends_is : (rs : List Row) → ends_line rs ≡ true → EndsInLine rs
+ends_is [] h = absurd cc
+ends_is (r ∷ []) h = record { front = []; last = r; line = line_is r.kind h; whole = refl }
+ends_is (r ∷ s ∷ rs) h = let e = ends_is (s ∷ rs) h in
+    record { front = r ∷ e.front; last = e.last; line = e.line; whole = ap (λ l. r ∷ l) e.whole }
+
+ends_behind : (front : List Row) (r : Row) → is_line r.kind ≡ true → ends_line (front ++ r ∷ []) ≡ true
+ends_behind (s ∷ t ∷ front) r h = ends_behind (t ∷ front) r h
+ends_behind _ r h = h
+
+ends_true : (rs : List Row) → EndsInLine rs → ends_line rs ≡ true
+ends_true rs e = ap ends_line e.whole ∙ ends_behind e.front e.last (line_true e.last.kind e.line)
+
+-- Rows can take a change if some witness shows it. `Admits` says nothing of the witness, so a
+-- truncated one is enough.
+pub admitted_by : (A : Type 0) (c : Change) (rs : List Row) → ∥ A ∥₁ → (A → Admits c rs) → Admits c rs
+admitted_by A Nothing rs t f = tt
+admitted_by A (NewRow r) rs t f = continues_is largest_limits rs r
+    (∥∥₁_elim t (Bool-set _ _) (λ a. continues_true largest_limits rs r (f a)))
+admitted_by A (NewPoint p) rs t f = (
+  ends_is rs (∥∥₁_elim t (Bool-set _ _) (λ a. ends_true rs (f a).0)),
+  ∥∥₁_elim t (Prim.hlevel props) (λ a. (f a).1),
+)
+
+-- the change of an item that comes after some bytes
+pub somewhere_admitted : (limits : Allowance) → IsAllowance limits
+    → (e : Sums) (o : Outline) (rs : List Row) (role : Role) (n : ℕ) (bytes : List ℕ)
+    → ∥ ((front : List ℕ) × Outlined limits front e o rs) ∥₁
+    → outline_role e o ≡ Some role → Gives role n bytes → objection limits e role n ≡ None
+    → Admits (change_of (moved e.position role n) n o) rs
+somewhere_admitted limits allowed e o rs role n bytes alive says gives free =
+    admitted_by ((front : List ℕ) × Outlined limits front e o rs) (change_of (moved e.position role n) n o) rs alive
+    (λ r. item_admitted limits allowed r.0 e o rs
+    (record { role = role; number = n; bytes = bytes }) r.1 says gives free)

@@ -1,10 +1,10 @@
--- The rows of a stack, and how an item changes them.
-use Rattle.std.specs.Prelude.{ℕ, zero, suc, List, [], ◌∷◌, ◌++◌, length, ℤ, Option, Some, None, if◌then◌else◌, ⊤}
+-- The rows of a stack, how an item changes them, and when they can take the change.
+use Rattle.std.specs.Prelude.{ℕ, zero, suc, List, [], ◌∷◌, ◌++◌, length, ℤ, Option, Some, None, if◌then◌else◌, ⊤, ◌<◌}
 use Rattle.twkb_points.specs.Point.{Point}
 use Rattle.twkb_tree.specs.declared.kind.Kind as row
 use Rattle.twkb_tree.specs.declared.kind.Kind.TheVariants as kinds
 use Rattle.twkb_tree.specs.Tree.{Ids, simple}
-use Rattle.twkb_tree.specs.Rows.{Row, plain_row, whole_row, first_id, rows_with, member_rows}
+use Rattle.twkb_tree.specs.Rows.{Row, plain_row, whole_row, first_id, rows_with, member_rows, row_points}
 use Rattle.twkb_tree.specs.RowGrowth.{point_added, EndsInLine}
 use Rattle.twkb_grammar.specs.Bits.{bit}
 use Rattle.twkb_grammar.specs.Roles.{Role}
@@ -14,8 +14,12 @@ use Rattle.twkb_grammar.specs.Machine.{SimpleKind, CollectionKind, depth_of, sha
 use Rattle.twkb_grammar.specs.Machine.{ManyLines, ManyPolygons, ManyGeometries, Phase, AtBody, AtEnd, Finished, Stack}
 use Rattle.twkb_grammar.specs.Machine.{asked}
 use Rattle.twkb_body.specs.Outline.{ids_after, FrameOutline, BodyPlace, Wanted, WantedY, Full, Stage, OnMetadata}
-use Rattle.twkb_body.specs.Outline.{OnOption}
-use Rattle.twkb_body.specs.Outline.{OnCount, OnId, OnBody, Outline}
+use Rattle.twkb_body.specs.Outline.{OnOption, OnCount, OnId, OnBody, Outline}
+use Rattle.twkb_tree.specs.declared.limits.TheConstants.{POINTS_CAP}
+use Rattle.twkb_tree.specs.Limits.{largest_limits}
+use Rattle.twkb_tree.specs.Admits.{Continues}
+
+-- ==== The rows of a stack, and how an item changes them.
 
 -- ---- the rows of a stack
 
@@ -153,3 +157,12 @@ id_in (g ∷ gs) = first_id g.ids
 -- The change of an item.
 abbrev pub change_of : Point → ℕ → Outline → Change
 change_of p n o = stage_change p n (length o.0) (id_in o.0) o.1
+
+-- ==== When rows can take the change of an item.
+
+-- A new row continues the rows within the largest limits. A new point goes into the row of a line
+-- or ring, and there are fewer than 2^24 points.
+abbrev pub Admits : Change → List Row → Type 0
+Admits Nothing rs = ⊤
+Admits (NewRow r) rs = Continues largest_limits rs r
+Admits (NewPoint p) rs = EndsInLine rs × (length (row_points rs) < POINTS_CAP)

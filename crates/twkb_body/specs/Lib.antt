@@ -1,14 +1,7 @@
 pub mod Outline
 pub mod Growing
 pub mod Reading
-pub mod Noting
-pub mod JudgedParts
 pub mod HeaderParts
-pub mod Admitting
 pub mod Front
-pub mod OptionalParts
 pub mod Header
-pub mod Whole
-pub mod Head
-pub mod Ids
 pub mod Running

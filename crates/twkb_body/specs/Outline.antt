@@ -1,19 +1,22 @@
 -- The outline of a stack: the open geometries without the values that were read.
 use Rattle.std.specs.Prelude.{ℕ, zero, suc, ◌-◌, ◌/◌, ◌%◌, if◌then◌else◌, List, [], ◌∷◌, ◌++◌, length, map, ℤ, Option}
-use Rattle.std.specs.Prelude.{Some, None, Bool, true, false, Result, Ok, Err}
-use Rattle.twkb_num.specs.Zigzag.{unzigzag_of}
+use Rattle.std.specs.Prelude.{Some, None, Bool, true, false, Result, Ok, Err, reverse}
+use Rattle.twkb_num.specs.Spelling.{unzigzag_of}
 use Rattle.twkb_tree.specs.Tree.{Ids, Trees, end, ◌▷◌}
 use Rattle.twkb_tree.specs.Rows.{other_ids}
 use Rattle.twkb_grammar.specs.Bits.{bit}
 use Rattle.twkb_grammar.specs.Roles.{Role, Header, Metadata, Count, Id, X, Y, End}
 use Rattle.twkb_grammar.specs.Fault.{Reason, SizeMismatch}
-use Rattle.twkb_grammar.specs.PlainReader.{is_exact}
+use Rattle.twkb_grammar.specs.Reading.{is_exact}
 use Rattle.twkb_grammar.specs.Machine.{Around, top, within, Body, Want, WantY, Done, BodyForm, PointForm, LineForm}
 use Rattle.twkb_grammar.specs.Machine.{PolygonForm, MultiPointForm, MultiLineForm, MultiPolygonForm, Kind, SimpleKind}
 use Rattle.twkb_grammar.specs.Machine.{CollectionKind, kind_number, kind_at, Head, Frame, Many, ManyPoints, ManyLines}
 use Rattle.twkb_grammar.specs.Machine.{ManyPolygons, ManyGeometries, first_count, listed, Phase, AtHeader, AtMetadata}
 use Rattle.twkb_grammar.specs.Machine.{AtOption, AtCount, AtId, AtBody, AtEnd, Finished, Sums, Stack, asked}
 use Rattle.twkb_grammar.specs.Machine.{with_option}
+use Rattle.twkb_body.specs.declared.member_ids.MemberIds.{MemberIds}
+
+-- ==== The outline of a stack: the open geometries without the values that were read.
 
 -- The ids of the members after some values.
 abbrev pub ids_behind : {A : Type 0} → Ids → List A → Ids
@@ -215,3 +218,13 @@ outline_ends bytes (gs, s) = Ok (gs, s)
 abbrev pub outline_in : Result Stack Reason → Result Outline Reason
 outline_in (Ok st) = Ok (outline_of st)
 outline_in (Err reason) = Err reason
+
+-- ==== The ids of members.
+
+-- from the open member on
+abbrev pub ids_of : MemberIds → Ids
+ids_of m = if m.has_ids then Some (reverse m.ids.items) else None
+
+-- those that were read so far, if some are still to come
+abbrev pub ids_read : MemberIds → List ℤ
+ids_read m = m.ids.items

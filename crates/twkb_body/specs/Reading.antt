@@ -1,19 +1,23 @@
--- The state of a reader that keeps an outline and rows, and no part of the tree.
-use Rattle.std.specs.Prelude.{◌+ℤ◌, true, ◌≡◌, ℕ, suc, ◌+◌, ◌++◌, List, length, Option, Some, Result, Ok, Err, ⊤}
+-- The state of a reader that keeps an outline and rows, and the notes that it makes of spans.
+use Rattle.std.specs.Prelude.{◌+ℤ◌, true, ◌≡◌, ℕ, suc, ◌+◌, ◌++◌, List, length, Option, Some, Result, Ok, Err, ⊤, []}
+use Rattle.std.specs.Prelude.{◌∷◌}
 use Rattle.twkb_num.specs.Varint.{IsVarint}
-use Rattle.twkb_num.specs.Zigzag.{unzigzag_of}
+use Rattle.twkb_num.specs.Spelling.{unzigzag_of}
 use Rattle.twkb_points.specs.Point.{Point, point_at}
 use Rattle.twkb_tree.specs.Tree.{Ids}
 use Rattle.twkb_tree.specs.Limits.{Allowance}
 use Rattle.twkb_tree.specs.Rows.{Row, first_id}
 use Rattle.twkb_grammar.specs.Roles.{Role, Item}
 use Rattle.twkb_grammar.specs.Fault.{Reason, FirstFault, moved}
-use Rattle.twkb_grammar.specs.Machine.{BodyForm, Head, depth_of, Sums, added, Stack}
-use Rattle.twkb_grammar.specs.PlainReader.{in_range, objection}
-use Rattle.twkb_grammar.specs.Reading.{Reached, IsGiven}
-use Rattle.twkb_body.specs.Outline.{FrameOutline, BodyPlace, Wanted, WantedY, Full, Stage, OnHeader, OnBody, OnFinished}
-use Rattle.twkb_body.specs.Outline.{Outline, outline_of, outline_role, outline_advanced, shut}
+use Rattle.twkb_grammar.specs.Machine.{BodyForm, Head, depth_of, Sums, added, Stack, nothing}
+use Rattle.twkb_grammar.specs.Reading.{in_range, objection, Reached, IsGiven}
+use Rattle.twkb_body.specs.Outline.{FrameOutline, BodyPlace, Wanted, WantedY, Full, Stage, OnHeader, OnBody}
+use Rattle.twkb_body.specs.Outline.{OnFinished, Outline, outline_of, outline_role, outline_advanced, shut, OnMetadata}
+use Rattle.twkb_body.specs.Outline.{OnOption}
 use Rattle.twkb_body.specs.Growing.{rows_so_far, Change, change_of, applied, point_change, id_in}
+use Rattle.twkb_grammar.specs.Noting.{Notes, no_notes, noted, note_header, note_metadata, IsQuiet}
+
+-- ==== The state of a reader that keeps an outline and rows, and no part of the tree.
 
 -- The bytes are complete items that the machine ran through within the limits; these are the sums
 -- after them, the outline of its stack, and the rows of the stack.
@@ -98,3 +102,33 @@ AtPoint Known Holds = (front : List ℕ) (e : Sums) (gs : List FrameOutline) (h 
     (ids : Ids) (lefts : List ℕ) (rs : List Row) (bytes : List ℕ) (to : Point)
     → Known front e (gs, OnBody h f ids (Wanted 0 lefts)) rs → Pair e.position bytes to
     → Holds (front ++ bytes) (sums_past e bytes to) (gs, shut h f ids 0 lefts) (point_after to gs h f ids) rs
+
+-- ==== The notes that a reader with an outline makes of spans.
+
+-- The notes that the next byte adds at once, if it belongs to a header.
+abbrev pub note_stage : Stage → (offset points byte : ℕ) → Notes → Notes
+note_stage OnHeader offset points byte w = note_header offset points byte w
+note_stage (OnMetadata k p) offset points byte w = note_metadata byte w
+note_stage _ offset points byte w = w
+
+-- The notes that items with these bytes add, if only the first item adds any: those of their
+-- first byte, if it belongs to a header.
+abbrev pub note_first : Stage → (offset points : ℕ) → List ℕ → Notes → Notes
+note_first t offset points [] w = w
+note_first t offset points (byte ∷ bytes) w = note_stage t offset points byte w
+
+-- A part that a metadata byte asks for is neither a header nor an end.
+abbrev pub IsCalmStage : Stage → Type 0
+IsCalmStage (OnOption k h r rs) = IsQuiet r
+IsCalmStage _ = ⊤
+
+-- The notes of the items so far, if the blob begins at offset `start`.
+abbrev pub notes_in : {limits : Allowance} {bytes : List ℕ} {e : Sums} {o : Outline} {rs : List Row}
+    → (start : ℕ) → Outlined limits bytes e o rs → Notes
+notes_in start r = noted start nothing no_notes r.reached.items
+
+-- A reader is in this state, with these notes, which depend on where the blob begins.
+pub record NotedOutline (limits : Allowance) (bytes : List ℕ) (e : Sums) (o : Outline)
+    (rs : List Row) (told : ℕ → Notes) : Type 0 where
+  pub outlined : Outlined limits bytes e o rs
+  pub notes : (start : ℕ) → notes_in start outlined ≡ told start

@@ -11,10 +11,9 @@ use Rattle.twkb_grammar.specs.Machine.{BodyForm, PointForm, MultiPointForm, Many
 use Rattle.twkb_grammar.specs.Noting.{Notes}
 use Rattle.twkb_body.specs.Outline.{FrameOutline, Stage, OnId, OnBody, Wanted, shut, next_ids}
 use Rattle.twkb_body.specs.Growing.{id_in}
-use Rattle.twkb_body.specs.Reading.{sums_past}
-use Rattle.twkb_body.specs.Noting.{NotedOutline}
-use Rattle.twkb_body.specs.JudgedParts.{PartIn}
-use Rattle.twkb_body.specs.Head.{head_of, IsHeadAt}
+use Rattle.twkb_body.specs.Reading.{sums_past, NotedOutline}
+use Rattle.twkb_body.specs.HeaderParts.{PartIn}
+use Rattle.twkb_body.specs.Header.{head_of, IsHeadAt}
 use Rattle.twkb_body.specs.declared.head.Head.{Head}
 use Rattle.twkb_body.specs.declared.list_points.Taken.{Taken}
 

@@ -1,24 +1,21 @@
 //! Laws of outlines, each stated as the contract of an empty function.
 ghost use Rattle.std.specs.Prelude.{◌≡◌, ◌≢◌, ◌≤◌, ℕ, List, [], ◌∷◌, ◌++◌, length, Some, None, Ok};
 ghost use Rattle.twkb_points.specs.Point.{Point};
-ghost use Rattle.twkb_tree.specs.Rows.{Row, rows};
+ghost use Rattle.twkb_tree.specs.Rows.{Row, rows, AreValidRowsOfOne};
 ghost use Rattle.twkb_tree.specs.Tree.{Tree};
 ghost use Rattle.twkb_tree.specs.Limits.{Allowance, IsAllowance, largest_limits};
-ghost use Rattle.twkb_tree.specs.Accepted.{Continues};
-ghost use Rattle.twkb_tree.specs.RowLists.{AreValidRowsOfOne};
+ghost use Rattle.twkb_tree.specs.Admits.{Continues};
 ghost use Rattle.twkb_grammar.specs.Roles.{Role, HasBytes, Item};
-ghost use Rattle.twkb_grammar.specs.Blob.{Blob};
+ghost use Rattle.twkb_grammar.specs.Items.{Blob};
 ghost use Rattle.twkb_grammar.specs.Fault.{Reason, Truncated, BadVarint, FirstFault, IsPart, IsCut, IsTooLong};
 ghost use Rattle.twkb_grammar.specs.Machine.{Sums, nothing, Stack, Finished, role_at, advanced};
 ghost use Rattle.twkb_grammar.specs.Reading.{Reached, FaultAt, AtNumber, ends, frame_count};
 ghost use Rattle.twkb_grammar.specs.Noting.{Notes, note_byte, IsCalm};
-ghost use Rattle.twkb_body.specs.Noting.{note_stage, IsCalmStage, NotedOutline};
+ghost use Rattle.twkb_body.specs.Reading.{note_stage, IsCalmStage, NotedOutline, Outlined, OutlinedBehind, Wants};
+ghost use Rattle.twkb_body.specs.Reading.{WithItem, OutlineLanded, StageFits, open_count, AtPoint, change_after};
 ghost use Rattle.twkb_body.specs.Outline.{Outline, OnHeader, stage_of, OnFinished, outline_of, outline_role};
 ghost use Rattle.twkb_body.specs.Outline.{outline_advanced, outline_in, outline_ends};
-ghost use Rattle.twkb_body.specs.Growing.{rows_so_far, change_of, applied, Takes};
-ghost use Rattle.twkb_body.specs.Reading.{Outlined, OutlinedBehind, Wants, WithItem, OutlineLanded, StageFits};
-ghost use Rattle.twkb_body.specs.Reading.{open_count, AtPoint, change_after};
-ghost use Rattle.twkb_body.specs.Admitting.{Admits};
+ghost use Rattle.twkb_body.specs.Growing.{rows_so_far, change_of, applied, Takes, Admits};
 
 /// The outline and the sums of the items so far determine the role of the next item.
 pub fn role()

@@ -3,8 +3,8 @@ ghost use Rattle.std.specs.Prelude.{◌≡◌, ◌≤◌, ◌+◌, length};
 ghost use Rattle.twkb_tree.specs.declared.limits.TheConstants.{POINTS_CAP, NODES_CAP};
 ghost use Rattle.twkb_tree.specs.Rows.{row_points};
 ghost use Rattle.twkb_tree.specs.RowGrowth.{EndsInLine};
-ghost use Rattle.twkb_flat.specs.Members.{EndsInMember};
-ghost use Rattle.twkb_body.specs.Ids.{ids_of};
+ghost use Rattle.twkb_flat.specs.Taking.{EndsInMember};
+ghost use Rattle.twkb_body.specs.Outline.{ids_of};
 ghost use Rattle.twkb_body.specs.Running.{TakesRow, GoesOn, TakesMembers};
 
 use crate::member_ids::MemberIds;

@@ -18,7 +18,7 @@ pub struct MemberIds {
 }
 
 impl MemberIds {
-    ghost use Rattle.twkb_body.specs.Ids.{ids_of, ids_read};
+    ghost use Rattle.twkb_body.specs.Outline.{ids_of, ids_read};
 
     /// Makes the ids of members that have none. Takes no memory.
     pub fn new(alloc: Global) -> MemberIds

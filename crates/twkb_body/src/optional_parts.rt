@@ -1,6 +1,6 @@
 //! The optional parts of a header that are complete at the start of bytes.
 ghost use Rattle.std.specs.Prelude.{IfSome};
-ghost use Rattle.twkb_body.specs.OptionalParts.{SizeInFront, BoxInFront, PartsInFront};
+ghost use Rattle.twkb_body.specs.HeaderParts.{SizeInFront, BoxInFront, PartsInFront};
 
 use crate::numbers::{FrontNumber, front_number};
 use twkb_grammar::Metadata;

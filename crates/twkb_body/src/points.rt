@@ -1,6 +1,6 @@
 //! Points that are complete at the start of bytes, each by its two steps from the one before it.
 ghost use Rattle.std.specs.Prelude.{◌≡◌, ◌<◌, ◌^◌, IfSome};
-ghost use Rattle.twkb_num.specs.Zigzag.{zigzag_of};
+ghost use Rattle.twkb_num.specs.Spelling.{zigzag_of};
 ghost use Rattle.twkb_points.specs.Point.{IsCoordinate};
 ghost use Rattle.twkb_body.specs.Front.{PointInFront, StepsTo};
 

@@ -2,11 +2,10 @@
 ghost use Rattle.std.specs.Prelude.{◌≡◌, ◌++◌, ◌∷◌, [], OnOk, OnErr};
 ghost use Rattle.twkb_tree.specs.Rows.{plain_row};
 ghost use Rattle.twkb_tree.specs.Limits.{largest_limits};
-ghost use Rattle.twkb_tree.specs.Accepted.{Continues};
+ghost use Rattle.twkb_tree.specs.Admits.{Continues};
 ghost use Rattle.twkb_flat.specs.Rows.{row_with};
-ghost use Rattle.twkb_body.specs.Growing.{applied, point_change, list_row, own_of};
-ghost use Rattle.twkb_body.specs.Admitting.{Admits};
-ghost use Rattle.twkb_body.specs.Head.{form_of, kind_of, IsTyped, IsBodied};
+ghost use Rattle.twkb_body.specs.Growing.{applied, point_change, list_row, own_of, Admits};
+ghost use Rattle.twkb_body.specs.Header.{form_of, kind_of, IsTyped, IsBodied};
 
 use crate::head::Head;
 use std::alloc::AllocError;

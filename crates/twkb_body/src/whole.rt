@@ -1,6 +1,6 @@
 //! A point that is complete at the start of bytes, with its header.
 ghost use Rattle.std.specs.Prelude.{◌≤◌, IfSome};
-ghost use Rattle.twkb_body.specs.Whole.{PointHeader, WholePoint};
+ghost use Rattle.twkb_body.specs.Front.{PointHeader, WholePoint};
 
 use crate::header::BARE;
 use crate::points::front_point;

@@ -18,7 +18,7 @@ use Rattle.fast_float.specs.Rounding.{IsNearestBits, IsSignificand, scaled_bits}
 use Rattle.fast_float.proofs.Patterns.{neg-round, of_bits-scaled_bits}
 use Rattle.fast_float.proofs.RoundingLemmas.{nearest_above, nearest_below, nearest_tie}
 use Rattle.twkb_points.specs.declared.point.TheConstants.{COORDINATE_BOUND}
-use Rattle.twkb_buffer.specs.Fractions.{FindsNearest, IsNearest}
+use Rattle.twkb_buffer.specs.RoundedNumbers.{FindsNearest, IsNearest}
 
 -- ==== Whole numbers nearest to fractions.
 

@@ -6,30 +6,33 @@ use lib.Ieee.Bits.{of_bits-fits}
 use lib.Ieee.Fits.{round-fits}
 use Rattle.std.proofs.Common.{◌≡◌, ◌∙◌, ℕ, ℤ, ◌+◌, ◌-◌, ◌*◌, ◌/◌, ◌%◌, ◌^◌, ◌<◌, zero, suc, max, Bool, true, false}
 use Rattle.std.proofs.Common.{cond, eqb, leb, ap, subst, sym, arith, inl, inr, ◌≤◌, List, [], ◌∷◌, ◌++◌, length, take}
-use Rattle.std.proofs.Common.{drop, get_or, set}
+use Rattle.std.proofs.Common.{drop, get_or, set, pos, negsuc, refl}
 use Rattle.std.proofs.Math.Nat.{eq_of_mul-eq-mul_right, mul_assoc, mul_right_comm, le_of_mul-le-mul_right}
 use Rattle.std.proofs.Math.Nat.{lt_of_le_of_lt, lt_of_mul-lt-mul_right, mul-le-mul_left, mul-le-mul_right}
 use Rattle.std.proofs.Math.Nat.{mul-lt-mul_of_pos_right, mul-pos, pow-le-pow_right, one-le-pow}
-use Rattle.std.proofs.lemmas.Bool.{cases_lt}
+use Rattle.std.proofs.lemmas.Bool.{cases_lt, leb-true, ltb-true}
 use Rattle.std.proofs.lemmas.Bool.Decides.{nat_tests}
 use Rattle.std.proofs.lemmas.Nat.{field_of, mod_below, pow-add, pow_pos, mul-le}
 use Rattle.std.specs.Float.{Float, binary64, fin, inf, nan}
-use Rattle.std.specs.Prelude.{Option, None, Some, SomeIff}
+use Rattle.std.specs.Prelude.{Option, None, Some, SomeIff, nat_le, nat_lt, ◌&&◌}
 use Rattle.std.specs.List.{AllZip}
 use Rattle.std.proofs.lemmas.Option.{get_or_from_slice_get, slice_get_within}
 use Rattle.std.proofs.lemmas.List.{length-set, take_more, take_more_set, drop-drop, drop-set-lt}
 use Rattle.fast_float.specs.Rounding.{IsSignificand}
 use Rattle.twkb_points.specs.declared.point.TheConstants.{COORDINATE_BOUND}
 use Rattle.twkb_points.specs.Point.{IsCoordinate}
-use Rattle.twkb_buffer.specs.Binary64.{IsFinite, exponent, exponent_field, significand, with_sign}
-use Rattle.twkb_buffer.specs.Fractions.{FindsNearest, IsNearest}
-use Rattle.twkb_buffer.specs.RoundedNumbers.{FindsSize, HasHalf, IsShort, IsSize, ReachesHalf, above, above_halfway}
-use Rattle.twkb_buffer.specs.RoundedNumbers.{below, below_halfway, FindsUnit, IsUnit, RoundsFront}
-use Rattle.twkb_buffer.specs.Scales.{IsScale, divisor_of, factor_of}
+use Rattle.twkb_buffer.specs.RoundedNumbers.{IsFinite, exponent, exponent_field, significand, with_sign, FindsNearest}
+use Rattle.twkb_buffer.specs.RoundedNumbers.{IsNearest, FindsSize, HasHalf, IsShort, IsSize, ReachesHalf, above}
+use Rattle.twkb_buffer.specs.RoundedNumbers.{above_halfway, below, below_halfway, FindsUnit, IsUnit, RoundsFront}
+use Rattle.twkb_buffer.specs.RoundedNumbers.{IsScale, divisor_of, factor_of, divisor_at, factor_at}
 use Rattle.twkb_buffer.specs.declared.scale.Scale.{Scale}
 use Rattle.twkb_buffer.specs.declared.scale.Scale.TheVariants.{Over, Times}
 use Rattle.twkb_buffer.proofs.FractionLemmas.{before_half, half_before, nearest_some, nearest_value, other_value}
 use Rattle.twkb_buffer.proofs.FractionLemmas.{same_value}
+use Rattle.twkb_grammar.proofs.Stepping.{both}
+use Rattle.twkb_buffer.specs.Samples.{AreRounded, large_doubles, other_doubles, written_halves}
+
+-- ==== Doubles as coordinates: their values, and the halves that decide how they are rounded.
 
 -- ==== The value of a double by the parts of its bits.
 
@@ -527,3 +530,115 @@ rounds_all {numbers = numbers} before all =
       left = whole.left;
       stopped = λ number next. absurd (omega (arith, slice_get_within numbers (length numbers) number next));
     }
+
+-- ==== Doubles are rounded as the samples say, by computation.
+
+-- the factor and the divisor are those of a scale
+abbrev are_scales : ℕ → ℕ → Bool
+are_scales factor divisor = nat_lt 0 factor && (nat_le factor (10 ^ 7) && (nat_lt 0 divisor && nat_le divisor (10 ^ 8)))
+
+scales_by : (factor divisor : ℕ) → are_scales factor divisor ≡ true → AreScales factor divisor
+scales_by factor divisor e =
+    let a = both _ _ e in
+    let b = both _ _ a.1 in
+    let c = both _ _ b.1 in
+    record {
+      factor_some = ltb-true 0 factor a.0;
+      factor_fits = leb-true factor (10 ^ 7) b.0;
+      divisor_some = ltb-true 0 divisor c.0;
+      divisor_fits = leb-true divisor (10 ^ 8) c.1;
+    }
+
+-- a whole number is the nearest to a fraction
+abbrev is_near : (over under less whole : ℕ) → Bool
+is_near over under less whole =
+    nat_le (2 * (whole * under) + less) (2 * over + under)
+    && nat_lt (2 * over) (2 * (whole * under) + under + less)
+
+near_by : (over under less whole : ℕ) → is_near over under less whole ≡ true → IsNearest over under less whole
+near_by over under less whole e =
+    let h = both _ _ e in
+    record { at_most_half_over = leb-true _ _ h.0; less_than_half_under = ltb-true _ _ h.1 }
+
+-- a double of few units
+of_few : (precision : ℤ) (number size : ℕ)
+    → are_scales (factor_at precision) (divisor_at precision) ≡ true
+    → nat_lt (exponent_field number) (2 ^ 11 - 1) ≡ true
+    → nat_lt (10 * above (factor_at precision) number) (10 ^ 15 * below (divisor_at precision) number) ≡ true
+    → is_near (above_halfway (factor_at precision) number) (below_halfway (divisor_at precision) number)
+    (significand number % 2) size ≡ true
+    → IsCoordinate (with_sign number size)
+    → IsUnit (factor_at precision) (divisor_at precision) number (with_sign number size)
+of_few precision number size scales finite short near within =
+    let factor = factor_at precision in
+    let divisor = divisor_at precision in
+    let is_finite = ltb-true (exponent_field number) (2 ^ 11 - 1) finite in
+    record {
+      finite = is_finite;
+      size = size;
+      size_is = short_size factor divisor number (scales_by factor divisor scales) is_finite size
+          (ltb-true (10 * above factor number) (10 ^ 15 * below divisor number) short)
+          (near_by (above_halfway factor number) (below_halfway divisor number) (significand number % 2) size near);
+      unit_is = refl;
+      in_range = within;
+    }
+
+-- a double of more units
+of_many : (precision : ℤ) (number size : ℕ) → nat_lt (exponent_field number) (2 ^ 11 - 1) ≡ true
+    → nat_le (10 ^ 15 * below (divisor_at precision) number) (10 * above (factor_at precision) number) ≡ true
+    → is_near (above (factor_at precision) number) (below (divisor_at precision) number) 0 size ≡ true
+    → IsCoordinate (with_sign number size)
+    → IsUnit (factor_at precision) (divisor_at precision) number (with_sign number size)
+of_many precision number size finite long near within =
+    let factor = factor_at precision in
+    let divisor = divisor_at precision in
+    let more = leb-true (10 ^ 15 * below divisor number) (10 * above factor number) long in
+    record {
+      finite = ltb-true (exponent_field number) (2 ^ 11 - 1) finite;
+      size = size;
+      size_is = long_size factor divisor number (λ short. omega (arith, short, more)) size
+          (near_by (above factor number) (below divisor number) 0 size near);
+      unit_is = refl;
+      in_range = within;
+    }
+
+-- two facts, one after the other
+infixr 10 ◌also◌
+◌also◌ : {A B : Type 0} → A → B → A × B
+a also b = (a, b)
+
+pub halves_rounded : AreRounded written_halves
+halves_rounded =
+    of_few (pos 1) 0x3FC3333333333333 2 refl refl refl refl (omega arith, omega arith)
+    also of_few (pos 1) 0xBFC3333333333333 2 refl refl refl refl (omega arith, omega arith)
+    also of_few (pos 1) 0x3FD6666666666666 4 refl refl refl refl (omega arith, omega arith)
+    also of_few (pos 2) 0x3FF0147AE147AE14 101 refl refl refl refl (omega arith, omega arith)
+    also of_few (pos 0) 0x3FE0000000000000 1 refl refl refl refl (omega arith, omega arith)
+    also of_few (pos 0) 0xC004000000000000 3 refl refl refl refl (omega arith, omega arith)
+    also of_few (pos 5) 0x3ED4F8B588E368F1 1 refl refl refl refl (omega arith, omega arith)
+    also of_few (pos 4) 0x401DCA9930BE0DED 74479 refl refl refl refl (omega arith, omega arith)
+    also of_few (pos 5) 0x3F904C059210385C 1592 refl refl refl refl (omega arith, omega arith)
+    also of_few (pos 5) 0xBFD11BDA5119CE07 26733 refl refl refl refl (omega arith, omega arith)
+    also of_few (pos 5) 0x40477956EAC86057 4694797 refl refl refl refl (omega arith, omega arith)
+    also of_few (pos 6) 0x3EA0C6F7A0B5ED8D 1 refl refl refl refl (omega arith, omega arith)
+    also of_few (pos 6) 0x404098F6A0DBAD3A 33195027 refl refl refl refl (omega arith, omega arith)
+    also of_few (pos 7) 0x4040BCD3AB78BF2E 334752097 refl refl refl refl (omega arith, omega arith)
+    also tt
+
+pub others_rounded : AreRounded other_doubles
+others_rounded =
+    of_few (pos 1) 0x3FC3333333333332 1 refl refl refl refl (omega arith, omega arith)
+    also of_few (pos 5) 0x401DCA8EB463497B 744781 refl refl refl refl (omega arith, omega arith)
+    also of_few (pos 7) 0x401DCA8EB463497B 74478100 refl refl refl refl (omega arith, omega arith)
+    also of_few (negsuc 7) 0x41A1E1A300000000 2 refl refl refl refl (omega arith, omega arith)
+    also of_few (pos 7) 0x8000000000000000 0 refl refl refl refl (omega arith, omega arith)
+    also of_few (pos 7) 0x0000000000000001 0 refl refl refl refl (omega arith, omega arith)
+    also tt
+
+pub large_rounded : AreRounded large_doubles
+large_rounded =
+    of_many (pos 0) 0x4340000000000000 9007199254740992 refl refl refl (omega arith, omega arith)
+    also of_many (pos 0) 0x43CFFFFFFFFFFFFF 4611686018427387392 refl refl refl
+    (omega arith, omega arith)
+    also of_many (pos 0) 0xC3D0000000000000 4611686018427387904 refl refl refl
+    (omega arith, omega arith) also tt

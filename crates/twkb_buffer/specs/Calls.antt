@@ -1,11 +1,28 @@
--- The effect of a call, for any conversion.
+-- The effect of a call, and what its report states.
 use Rattle.std.specs.Prelude.{◌≡◌, ◌≢◌, ℕ, ◌<◌, ◌≤◌, List, take, length, Option, Some, None, Result, Ok, Err, ⊤}
 use Rattle.twkb_convert.specs.declared.report.Cause.{Cause}
+use Rattle.twkb_buffer.specs.declared.report.BufferReport.{BufferReport}
+use Rattle.twkb_buffer.specs.Numbers.{place_of, reason_number_of, status_of, text_offset_of}
 use Rattle.twkb_convert.specs.declared.report.Cause.TheVariants as cause
 use Rattle.twkb_convert.specs.declared.report.ConvertFault.{ConvertFault}
 use Rattle.twkb_convert.specs.declared.report.Report.{Report}
-use Rattle.twkb_buffer.specs.declared.report.BufferReport.{BufferReport}
-use Rattle.twkb_buffer.specs.Reports.{Tells}
+use Rattle.twkb_tree.specs.Limits.{Allowance}
+use Rattle.twkb_grammar.specs.declared.style.Style.{Style}
+use Rattle.twkb_convert.specs.declared.conversion.Conversion.{Conversion}
+use Rattle.twkb_convert.specs.declared.conversion.Conversion.TheVariants as conversion
+use Rattle.twkb_buffer.specs.Slices.{PacksTo, ShowsTo, UnpacksTo, PackedFront, PackedSlice, ShownFront, ShownSlice}
+use Rattle.twkb_buffer.specs.Slices.{UnpackedFront, UnpackedSlice}
+
+-- ==== What a report states.
+
+-- The report states this cause: its status, its reason and its places.
+pub record Tells (report : BufferReport) (why : Cause) : Type 0 where
+  pub status : report.status ≡ status_of why
+  pub reason : report.reason ≡ reason_number_of why
+  pub place : report.place ≡ place_of why
+  pub text_offset : report.text_offset ≡ text_offset_of why
+
+-- ==== The effect of a call, for any conversion.
 
 -- what a finished conversion wrote, and for how many geometries
 abbrev pub Ends : Type 1
@@ -88,3 +105,45 @@ pub record FillsSlice (Ended : Ends) (Halted : Stops) (HasLength : ℕ → Type 
   pub no_more : report.status ≢ 5 → report.needed ≡ report.sent
   pub measured : report.status ≡ 5 → report.sent ≡ length slice → (whole : BufferReport)
       × Measures Ended Halted HasLength whole × (length slice < whole.needed → report.needed ≡ whole.needed)
+
+-- ==== The effect of each conversion between two slices.
+
+-- the whole output of this input
+abbrev pub Finished : Conversion → Allowance → List ℕ → Ends
+Finished (conversion.Pack style) l input = PackedSlice style l input
+Finished conversion.Unpack l input = UnpackedSlice l input
+Finished conversion.Show l input = ShownSlice l input
+
+-- a prefix of the whole output of this input
+abbrev pub Stopped : Conversion → Allowance → List ℕ → Stops
+Stopped (conversion.Pack style) l input = PackedFront style l input
+Stopped conversion.Unpack l input = UnpackedFront l input
+Stopped conversion.Show l input = ShownFront l input
+
+-- the length of the whole output of this input, even if it is refused
+abbrev pub HasLength : Conversion → Allowance → List ℕ → ℕ → Type 0
+HasLength (conversion.Pack style) l input = PacksTo style l input
+HasLength conversion.Unpack l input = UnpacksTo l input
+HasLength conversion.Show l input = ShowsTo l input
+
+-- the start of a slice was filled with the output of this input, as a report states
+abbrev pub FillsOutput : Conversion → Allowance → List ℕ → List ℕ → BufferReport → Type 0
+FillsOutput what l input slice report = FillsSlice (Finished what l input) (Stopped what l input)
+    (HasLength what l input) slice report
+
+-- the output of this input was measured, as a report states
+abbrev pub MeasuresOutput : Conversion → Allowance → List ℕ → BufferReport → Type 0
+MeasuresOutput what l input report = Measures (Finished what l input) (Stopped what l input)
+    (HasLength what l input) report
+
+-- a table was packed into a slice
+abbrev pub PacksSlice : Style → Allowance → List ℕ → List ℕ → BufferReport → Type 0
+PacksSlice style = FillsOutput (conversion.Pack style)
+
+-- a stream was unpacked into a slice
+abbrev pub UnpacksSlice : Allowance → List ℕ → List ℕ → BufferReport → Type 0
+UnpacksSlice = FillsOutput conversion.Unpack
+
+-- a stream was shown in a slice
+abbrev pub ShowsSlice : Allowance → List ℕ → List ℕ → BufferReport → Type 0
+ShowsSlice = FillsOutput conversion.Show

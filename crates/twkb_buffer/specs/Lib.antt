@@ -1,14 +1,7 @@
 pub mod Numbers
-pub mod Reports
-pub mod Fillers
-pub mod Slices
-pub mod Lengths
 pub mod Calls
-pub mod Conversions
+pub mod Slices
 pub mod Texts
 pub mod Polylines
-pub mod Fractions
-pub mod Binary64
-pub mod Scales
 pub mod RoundedNumbers
 pub mod Samples

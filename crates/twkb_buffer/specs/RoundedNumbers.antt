@@ -1,15 +1,82 @@
--- Numbers as coordinates: each the whole number of units nearest to it, of two the one farther
--- from 0. Up to 10^14 units a double that is the nearest one to a half counts as that half (profile).
-use Rattle.std.specs.Prelude.{◌≡◌, ◌⊎◌, ◌↔◌, ℕ, ℤ, ◌+◌, ◌-◌, ◌*◌, ◌^◌, ◌<◌, ◌≤◌, Option, None, Some, List, length}
-use Rattle.std.specs.Prelude.{take, drop, slice_get, cond, nat_eq, nat_le}
+-- Doubles as coordinates: each the whole number of units nearest to it (profile).
+use Rattle.std.specs.Prelude.{ℕ, ℤ, pos, neg_ℤ, ◌+◌, ◌-◌, ◌/◌, ◌%◌, ◌^◌, ◌<◌, cond, nat_eq, nat_lt, max, ◌*◌, ◌≤◌}
+use Rattle.std.specs.Prelude.{Option, None, Some, negsuc, suc, ◌≡◌, ◌⊎◌, ◌↔◌, List, length, take, drop, slice_get}
+use Rattle.std.specs.Prelude.{nat_le}
+use Rattle.twkb_points.specs.declared.point.TheConstants.{COORDINATE_BOUND}
+use Rattle.twkb_buffer.specs.declared.scale.Scale.{Scale}
+use Rattle.twkb_buffer.specs.declared.scale.Scale.TheVariants.{Over, Times}
 use Rattle.std.specs.Float.{binary64}
 use Rattle.std.specs.Float.Ieee.{of_bits, round}
 use Rattle.std.specs.List.{AllZip}
 use Rattle.twkb_points.specs.Point.{IsCoordinate}
-use Rattle.twkb_points.specs.declared.point.TheConstants.{COORDINATE_BOUND}
-use Rattle.twkb_buffer.specs.Binary64.{IsFinite, exponent, significand, with_sign}
-use Rattle.twkb_buffer.specs.Scales.{divisor_at, factor_at}
 use Rattle.twkb_buffer.specs.declared.report.BufferReport.{BufferReport}
+
+-- ==== The number that 64 bits stand for: a sign, a significand and a power of two (IEEE 754-2019,
+-- 3.4, binary64).
+
+-- the eleven bits of the exponent
+abbrev pub exponent_field : ℕ → ℕ
+exponent_field bits = bits / 2 ^ 52 % 2 ^ 11
+
+-- the exponent of a number has a bit that is not set; that of an infinity or of no number has none
+abbrev pub IsFinite : ℕ → Type 0
+IsFinite bits = exponent_field bits < 2 ^ 11 - 1
+
+-- the whole number that is multiplied by a power of two; a subnormal number has no leading bit
+abbrev pub significand : ℕ → ℕ
+significand bits = cond (nat_eq (exponent_field bits) 0) (bits % 2 ^ 52) (2 ^ 52 + bits % 2 ^ 52)
+
+-- the exponent of that power of two, and 1075 more; a subnormal number has the least
+abbrev pub exponent : ℕ → ℕ
+exponent bits = max 1 (exponent_field bits)
+
+-- a size with the sign of the number
+abbrev pub with_sign : ℕ → ℕ → ℤ
+with_sign bits size = cond (nat_lt bits (2 ^ 63)) (pos size) (neg_ℤ (pos size))
+
+-- ==== The whole number nearest to a fraction.
+
+-- A whole number is at most one half more than the fraction above / below, and at most one half
+-- less than it: of two the greater, or if less is 1 the smaller.
+pub record IsNearest (above below less whole : ℕ) : Type 0 where
+  pub at_most_half_over : 2 * (whole * below) + less ≤ 2 * above + below
+  pub less_than_half_under : 2 * above < 2 * (whole * below) + below + less
+
+-- the whole number nearest to a fraction, or that it is beyond all coordinates
+abbrev pub FindsNearest : ℕ → ℕ → ℕ → Option ℕ → Type 0
+FindsNearest above below less (Some whole) = IsNearest above below less whole
+FindsNearest above below less None = (whole : ℕ) → IsNearest above below less whole → COORDINATE_BOUND < whole
+
+-- ==== The powers of ten by which numbers become counts of a unit.
+
+-- what a number is multiplied by to count units of 10^-precision
+abbrev pub factor_at : ℤ → ℕ
+factor_at (pos n) = 10 ^ n
+factor_at (negsuc n) = 1
+
+-- what it is divided by
+abbrev pub divisor_at : ℤ → ℕ
+divisor_at (pos n) = 1
+divisor_at (negsuc n) = 10 ^ suc n
+
+-- what a scale multiplies by
+abbrev pub factor_of : Scale → ℕ
+factor_of (Times factor) = factor
+factor_of (Over divisor) = 1
+
+-- what a scale divides by
+abbrev pub divisor_of : Scale → ℕ
+divisor_of (Times factor) = 1
+divisor_of (Over divisor) = divisor
+
+-- the scale is no more than that of the greatest precision, 7, and of the least, -8
+abbrev pub IsScale : Scale → Type 0
+IsScale (Times factor) = (0 < factor) × (factor ≤ 10 ^ 7)
+IsScale (Over divisor) = (0 < divisor) × (divisor ≤ 10 ^ 8)
+
+-- ==== Numbers as coordinates: each the whole number of units nearest to it, of two the one farther
+-- from 0. Up to 10^14 units a double that is the nearest one to a half counts as that half
+-- (profile).
 
 -- the size of a number in units is a fraction: the number above
 abbrev pub above : ℕ → ℕ → ℕ

@@ -1,7 +1,6 @@
 -- Doubles and their coordinates, for the samples.
 use Rattle.std.specs.Prelude.{ℕ, ℤ, List, [], ◌∷◌, pos, negsuc, ⊤}
-use Rattle.twkb_buffer.specs.RoundedNumbers.{IsUnit}
-use Rattle.twkb_buffer.specs.Scales.{divisor_at, factor_at}
+use Rattle.twkb_buffer.specs.RoundedNumbers.{IsUnit, divisor_at, factor_at}
 
 -- A double by its bits, a precision, and the coordinate to which the double is rounded.
 pub record RoundedDouble : Type 0 where

@@ -1,17 +1,22 @@
--- The conversions between two slices: the bytes read, and the bytes written.
-use Rattle.std.specs.Prelude.{◌≡◌, ℕ, List, length, Option, Some}
+-- The conversions between two slices: the bytes read, the bytes written, and the length of the whole output.
+use Rattle.std.specs.Prelude.{◌≡◌, ℕ, List, length, Option, Some, ◌∷◌, take}
 use Rattle.twkb_tree.specs.Tree.{Tree}
 use Rattle.twkb_tree.specs.Limits.{Allowance}
-use Rattle.twkb_grammar.specs.Blob.{Stream}
+use Rattle.twkb_grammar.specs.Items.{Stream}
 use Rattle.twkb_grammar.specs.Written.{canonical_stream}
 use Rattle.twkb_grammar.specs.declared.style.Style.{Style}
-use Rattle.twkb_convert.specs.Fronts.{FrontOfBlobs, FrontOfText}
+use Rattle.twkb_convert.specs.Parts.{FrontOfBlobs, FrontOfText, WholeTable}
 use Rattle.twkb_convert.specs.Listed.{ExplainsListingCause}
-use Rattle.twkb_convert.specs.LocatedBlobs.{LocatedStream, geometries_of, lines_text}
-use Rattle.twkb_convert.specs.Outputs.{AtMostOneCut, table_text}
+use Rattle.twkb_convert.specs.Listings.{LocatedStream, geometries_of, lines_text, ShowTo}
+use Rattle.twkb_convert.specs.Outputs.{AtMostOneCut, table_text, PackTo, UnpackTo}
 use Rattle.twkb_convert.specs.Packed.{ExplainsPackingCause}
-use Rattle.twkb_convert.specs.RefusedRows.{WholeTable}
 use Rattle.twkb_convert.specs.declared.report.Cause.{Cause}
+use Rattle.std.specs.Borrow.{MutBor}
+use Rattle.twkb_buffer.specs.declared.filler.Filler.{Filler}
+use Rattle.twkb_table.specs.Record.{Record}
+use Rattle.twkb_table.specs.CsvRecords.{AreRecordsOf}
+
+-- ==== The conversions between two slices: the bytes read, and the bytes written.
 
 -- The records of the table name this many geometries, and their canonical stream was written.
 pub record PackedSlice (style : Style) (l : Allowance) (table written : List ℕ) (done : ℕ) : Type 0 where
@@ -62,3 +67,34 @@ ShownSlice l = ListedSlice (LocatedStream l 0) lines_text
 -- a prefix of the lines of the blobs with which the bytes begin was written
 abbrev pub ShownFront : Allowance → List ℕ → List ℕ → ℕ → Cause → Type 0
 ShownFront l = ListedFront (LocatedStream l 0) geometries_of lines_text l
+
+-- ==== The contents of a writer into a slice.
+
+-- the borrowed slice
+abbrev pub buffer_of : Filler → MutBor (List ℕ)
+buffer_of filler = filler.buffer
+
+-- the number of bytes filled
+abbrev pub filled_of : Filler → ℕ
+filled_of filler = filler.filled
+
+-- The name of the borrow, followed by the bytes that were filled. A writer's contents only grow
+-- at their end, so the name stays through any writing, and the caller who made the filler can
+-- prove that it gets its own slice back.
+abbrev pub held : Filler → Option (List ℕ)
+held filler = Some (filler.buffer.ghost_name ∷ take filler.filled filler.buffer.now)
+
+-- ==== The length of a conversion's whole output.
+
+-- the output to which the table is packed has this length
+abbrev pub PacksTo : Style → Allowance → List ℕ → ℕ → Type 0
+PacksTo style l table count = (records : List Record) → AreRecordsOf table records
+    → (bytes : List ℕ) × PackTo style l records bytes × (count ≡ length bytes)
+
+-- the output to which the stream is unpacked has this length
+abbrev pub UnpacksTo : Allowance → List ℕ → ℕ → Type 0
+UnpacksTo l stream count = (text : List ℕ) × UnpackTo l stream text × (count ≡ length text)
+
+-- the output by which the stream is shown has this length
+abbrev pub ShowsTo : Allowance → List ℕ → ℕ → Type 0
+ShowsTo l stream count = (text : List ℕ) × ShowTo l stream text × (count ≡ length text)

@@ -2,7 +2,7 @@
 use Rattle.std.specs.Prelude.{◌≡◌, ◌≢◌, ◌≤◌, ℕ, List, [], ◌∷◌, ◌++◌, length, take, drop, codes, ◌==◌}
 use Rattle.std.specs.Prelude.{if◌then◌else◌}
 use Rattle.twkb_convert.specs.declared.report.Cause.{Cause}
-use Rattle.twkb_convert.specs.Texts.{cause_words}
+use Rattle.twkb_convert.specs.Causes.{cause_words}
 use Rattle.twkb_buffer.specs.Numbers.{reason_number_of}
 
 -- the input is refused for this cause, and the number is that of its reason

@@ -1,7 +1,7 @@
 //! The parts of a double, given as the number that its 64 bits are (IEEE 754-2019, 3.4, binary64).
 ghost use Rattle.std.specs.Prelude.{◌≡◌, ◌^◌, ◌<◌, ◌≤◌, SomeIff};
 ghost use Rattle.twkb_points.specs.Point.{IsCoordinate};
-ghost use Rattle.twkb_buffer.specs.Binary64.{exponent, exponent_field, significand, with_sign};
+ghost use Rattle.twkb_buffer.specs.RoundedNumbers.{exponent, exponent_field, significand, with_sign};
 
 use twkb_points::COORDINATE_BOUND;
 

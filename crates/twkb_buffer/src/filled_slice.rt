@@ -1,8 +1,7 @@
 //! Conversions from a slice into a slice.
 ghost use Rattle.std.specs.Prelude.{◌≡◌, ◌≢◌, ◌↔◌, ◌<◌, length, true};
-ghost use Rattle.twkb_buffer.specs.Calls.{Fills, sent_of};
-ghost use Rattle.twkb_buffer.specs.Conversions.{FillsOutput, Finished, Stopped};
-ghost use Rattle.twkb_buffer.specs.Fillers.{buffer_of, filled_of};
+ghost use Rattle.twkb_buffer.specs.Calls.{Fills, sent_of, FillsOutput, Finished, Stopped};
+ghost use Rattle.twkb_buffer.specs.Slices.{buffer_of, filled_of};
 
 use crate::filler::Filler;
 use crate::lengths::measure;

@@ -15,7 +15,7 @@ pub(crate) struct Filler<'a> {
 }
 
 impl<'a> Filler<'a> {
-    ghost use Rattle.twkb_buffer.specs.Fillers.{buffer_of, filled_of};
+    ghost use Rattle.twkb_buffer.specs.Slices.{buffer_of, filled_of};
 
     // Makes a writer into a slice, of which it has filled nothing.
     pub(crate) fn new(buffer: &'a mut [u8]) -> Filler<'a>
@@ -49,7 +49,7 @@ fn copy_at(start: usize, from: &[u8], to: &mut [u8]) -> usize
 }
 
 impl Write for Filler<'_> {
-    ghost use Rattle.twkb_buffer.specs.Fillers.{buffer_of, filled_of, held};
+    ghost use Rattle.twkb_buffer.specs.Slices.{buffer_of, filled_of, held};
 
     ghost contents = { λ filler. held filler };
 

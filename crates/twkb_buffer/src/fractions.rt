@@ -2,7 +2,7 @@
 //! `less` is 1, and the greater one if it is 0; `less` must be one of these.
 ghost use Rattle.std.specs.Prelude.{◌+◌, ◌-◌, ◌*◌, ◌%◌, ◌^◌, ◌<◌, ◌≤◌, SomeIff};
 ghost use Rattle.twkb_points.specs.declared.point.TheConstants.{COORDINATE_BOUND};
-ghost use Rattle.twkb_buffer.specs.Fractions.{FindsNearest, IsNearest};
+ghost use Rattle.twkb_buffer.specs.RoundedNumbers.{FindsNearest, IsNearest};
 
 use twkb_points::COORDINATE_BOUND;
 

@@ -3,8 +3,7 @@ ghost use Rattle.std.specs.Prelude.{◌≡◌, ◌≢◌, ℕ, ℤ, ◌-◌, ◌
 ghost use Rattle.std.specs.Float.{binary64, fin};
 ghost use Rattle.std.specs.Float.Ieee.{of_bits};
 ghost use lib.Ieee.Exact.{HasValue};
-ghost use Rattle.twkb_buffer.specs.Binary64.{IsFinite, exponent, significand};
-ghost use Rattle.twkb_buffer.specs.RoundedNumbers.{IsUnit};
+ghost use Rattle.twkb_buffer.specs.RoundedNumbers.{IsFinite, exponent, significand, IsUnit};
 
 /// Bits of which `IsFinite` holds are those of the double with their sign, significand and
 /// exponent; all other bits are those of no finite double.

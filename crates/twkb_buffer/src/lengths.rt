@@ -1,7 +1,6 @@
 //! The length of a conversion's output.
 ghost use Rattle.std.specs.Prelude.{◌≡◌};
-ghost use Rattle.twkb_buffer.specs.Calls.{Counts, MeasuresBy, whole_length_of};
-ghost use Rattle.twkb_buffer.specs.Conversions.{Finished, MeasuresOutput, Stopped};
+ghost use Rattle.twkb_buffer.specs.Calls.{Counts, MeasuresBy, whole_length_of, Finished, MeasuresOutput, Stopped};
 
 use crate::report::{BufferReport, finished, stopped};
 use std::alloc::Global;

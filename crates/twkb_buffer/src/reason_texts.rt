@@ -1,7 +1,7 @@
 //! The texts of reasons, by their numbers, and of the version, copied into a caller's buffer.
 ghost use Rattle.std.specs.Prelude.{◌≡◌, ◌≢◌, ◌≤◌, IfSome, IsNone, length};
 ghost use Rattle.twkb_convert.specs.declared.report.Cause.{Cause};
-ghost use Rattle.twkb_convert.specs.Version.{version_text};
+ghost use Rattle.twkb_convert.specs.Conversions.{version_text};
 ghost use Rattle.twkb_buffer.specs.Numbers.{blob_number_of, point_text_number_of, row_number_of};
 ghost use Rattle.twkb_buffer.specs.Texts.{AreWordsOf, HasReason, NamesNoBlob, NamesNoPointText, NamesNoRow, PutsText};
 ghost use Rattle.twkb_buffer.specs.Texts.{array_words, with_text};
@@ -73,7 +73,7 @@ fn blob_reason(number: u32) -> Option<BlobReason>
 
 // A cause whose reason has this number, with 0 for each place; `None` if no cause has such a
 // reason.
-#[tactic(auto, using(crate::proofs::TextLemmas::no_cause))]
+#[tactic(auto, using(crate::proofs::RunLemmas::no_cause))]
 fn cause_of(number: u32) -> Option<Cause>
     ensures some { IfSome result (HasReason number) }
     ensures none { IsNone result → (why : Cause) → HasReason number why → ⊥ }
@@ -109,7 +109,7 @@ fn array_words(number: u32) -> &'static str
 }
 
 // The words of the reason with this number, at most 31 bytes; the empty text if no reason has it.
-#[tactic(auto, using(crate::proofs::TextLemmas::named, crate::proofs::TextLemmas::unnamed))]
+#[tactic(auto, using(crate::proofs::RunLemmas::named, crate::proofs::RunLemmas::unnamed))]
 fn words_of(number: u32) -> &'static str
     ensures words { AreWordsOf number result.now }
     ensures short { length result.now ≤ 31 }

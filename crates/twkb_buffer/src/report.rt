@@ -1,6 +1,6 @@
 //! The report of a call.
 ghost use Rattle.std.specs.Prelude.{◌≡◌};
-ghost use Rattle.twkb_buffer.specs.Reports.{Tells};
+ghost use Rattle.twkb_buffer.specs.Calls.{Tells};
 
 use crate::reason_numbers::{DONE, place, reason_number, status, text_offset};
 use twkb_convert::{ConvertFault, Report};

@@ -2,12 +2,10 @@
 //! scale must be one that `scale_of` gives.
 ghost use Rattle.std.specs.Prelude.{◌≡◌, ◌-◌, ◌*◌, ◌%◌, ◌^◌, ◌<◌, ◌≤◌, length};
 ghost use Rattle.twkb_tree.specs.Tree.{IsPrecision};
-ghost use Rattle.twkb_buffer.specs.Binary64.{IsFinite, exponent, significand};
-ghost use Rattle.twkb_buffer.specs.Fractions.{FindsNearest};
+ghost use Rattle.twkb_buffer.specs.RoundedNumbers.{IsFinite, exponent, significand, FindsNearest, FindsSize};
+ghost use Rattle.twkb_buffer.specs.RoundedNumbers.{FindsUnit, Rounds, RoundsFront, above, above_halfway, below};
+ghost use Rattle.twkb_buffer.specs.RoundedNumbers.{below_halfway, rounded_report, IsScale, divisor_of, factor_of};
 ghost use Rattle.twkb_buffer.specs.Polylines.{nothing_report};
-ghost use Rattle.twkb_buffer.specs.RoundedNumbers.{FindsSize, FindsUnit, Rounds, RoundsFront};
-ghost use Rattle.twkb_buffer.specs.RoundedNumbers.{above, above_halfway, below, below_halfway, rounded_report};
-ghost use Rattle.twkb_buffer.specs.Scales.{IsScale, divisor_of, factor_of};
 
 use crate::binary64::{NOT_FINITE, exponent, exponent_field, significand, with_sign};
 use crate::fractions::{divided, multiplied};

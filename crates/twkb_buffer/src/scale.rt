@@ -1,7 +1,7 @@
 //! The powers of ten by which numbers become counts of a unit.
 ghost use Rattle.std.specs.Prelude.{◌≡◌, ◌↔◌, IfSome, IsNone};
 ghost use Rattle.twkb_tree.specs.Tree.{IsPrecision};
-ghost use Rattle.twkb_buffer.specs.Scales.{IsScale, divisor_at, divisor_of, factor_at, factor_of};
+ghost use Rattle.twkb_buffer.specs.RoundedNumbers.{IsScale, divisor_at, divisor_of, factor_at, factor_of};
 
 use twkb_tree::{GREATEST_PRECISION, LEAST_PRECISION};
 

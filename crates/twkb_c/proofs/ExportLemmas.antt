@@ -6,11 +6,11 @@ use Rattle.twkb_grammar.specs.declared.style.Style.{Style}
 use Rattle.twkb_grammar.specs.declared.style.Style.TheVariants.{Full, Plain}
 use Rattle.twkb_blob.specs.declared.fault.BlobFault.{BlobFault}
 use Rattle.twkb_blob.specs.declared.fault.BlobFault.TheVariants as fault
-use Rattle.twkb_buffer.specs.Conversions.{PacksSlice, ShowsSlice, UnpacksSlice}
+use Rattle.twkb_buffer.specs.Calls.{PacksSlice, ShowsSlice, UnpacksSlice}
 use Rattle.twkb_buffer.specs.declared.report.BufferReport.{BufferReport}
 use Rattle.twkb_buffer.specs.declared.point.BufferPoint.{BufferPoint}
 use Rattle.twkb_arrays.specs.FilledArrays.{ReadsArrays, outcome_of}
-use Rattle.twkb_arrays.specs.Rooms.{are_more}
+use Rattle.twkb_arrays.specs.SentBlobs.{are_more}
 use Rattle.twkb_arrays.specs.WrittenArrays.{WritesArrays}
 use Rattle.twkb_arrays.specs.declared.filled_arrays.BufferCounts.{BufferCounts}
 use Rattle.twkb_arrays.specs.declared.row.BufferRow.{BufferRow}

@@ -1,4 +1,3 @@
 pub mod PassedLemmas
 pub mod RequestLemmas
 pub mod RefusalLemmas
-pub mod PrintLemmas

@@ -48,8 +48,8 @@ use Rattle.clap.specs.declared.builder.value_parser.ValueParser.TheVariants as p
 use Rattle.twkb_tree.specs.declared.limits.TheConstants.{NEST_CAP}
 use Rattle.twkb_grammar.specs.declared.style.Style.TheVariants.{Full}
 use Rattle.twkb_convert.specs.declared.conversion.Conversion.TheVariants as conversion
-use Rattle.twkb_command.specs.CommandLine.{command_line, max_nest, style_option}
-use Rattle.twkb_command.specs.Words.{NamesConversion, GivesNest, HasNest, IsNest}
+use Rattle.twkb_command.specs.CommandLine.{command_line, max_nest, style_option, NamesConversion, GivesNest, HasNest}
+use Rattle.twkb_command.specs.CommandLine.{IsNest}
 
 -- ==== A fact that each use of an argument keeps is true of the rows of words without a fault.
 

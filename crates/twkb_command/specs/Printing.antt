@@ -1,11 +1,23 @@
--- What is printed to a writer that may fail.
-use Rattle.std.specs.Prelude.{ℕ, ◌≡◌, ◌<◌, ◌≤◌, ◌+◌, ◌-◌, ◌^◌, ◌⊎◌, List, Option, length, true, false}
+-- What is printed to a writer that may fail, and the line on standard error (profile).
+use Rattle.std.specs.Prelude.{ℕ, ◌≡◌, ◌<◌, ◌≤◌, ◌+◌, ◌-◌, ◌^◌, ◌⊎◌, List, Option, length, true, false, ◌++◌, codes}
+use Rattle.std.specs.Prelude.{decimal}
 use Rattle.std.specs.Io.KnownBytes.{Appends}
 use Rattle.twkb_io.specs.declared.tap.Tap.{Tap}
 use Rattle.twkb_io.specs.declared.output.Output.{Output}
 use Rattle.twkb_io.specs.declared.TheConstants.{MAX_BYTES}
 use Rattle.twkb_io.specs.Taps.{count_failure, device_of, failures_of}
 use Rattle.twkb_io.specs.Outputs.{Took, is_spent, output_failures, output_tap, sent_of}
+use Rattle.twkb_polyline.specs.declared.fault.PolyReason.{PolyReason}
+use Rattle.twkb_polyline.specs.Fault.{point_text_words}
+use Rattle.twkb_table.specs.declared.reason.RowReason.{RowReason}
+use Rattle.twkb_table.specs.declared.reason.RowReason.TheVariants as row
+use Rattle.twkb_table.specs.RowFault.{row_words}
+use Rattle.twkb_engine.specs.Texts.{blob_words}
+use Rattle.twkb_convert.specs.declared.report.Cause.{Cause}
+use Rattle.twkb_convert.specs.declared.report.Cause.TheVariants as cause
+use Rattle.twkb_convert.specs.Causes.{cause_words}
+
+-- ==== What is printed to a writer that may fail.
 
 -- A write failed, and no more bytes are taken.
 pub record Fails {W : Type 0} (old new : Output W) : Type 0 where
@@ -23,3 +35,29 @@ pub record Prints {W : Type 0} (contents : W → Option (List ℕ)) (old : Outpu
 abbrev pub IsPrinted : {W : Type 0} → (W → Option (List ℕ)) → Tap W → List ℕ → Tap W → Type 0
 IsPrinted contents old bytes new = failures_of old < 2 ^ 64 - 1 → failures_of new ≡ failures_of old
     → Appends (contents (device_of old)) (contents (device_of new)) bytes
+
+-- ==== The line on standard error for a conversion that stopped, or for words that were refused
+-- (profile).
+
+-- the reason and the place of a fault in a text of points
+abbrev pub text_reason : ℕ → PolyReason → List ℕ
+text_reason offset reason = codes "polyline at " ++ (decimal offset ++ (codes ": " ++ point_text_words reason))
+
+-- the reason for which a record is refused
+abbrev pub reason_text : RowReason → List ℕ
+reason_text (row.Polyline offset reason) = text_reason offset reason
+reason_text reason = row_words reason
+
+-- the place and the reason of a stop
+abbrev pub cause_text : Cause → List ℕ
+cause_text (cause.Row number reason) = codes "record " ++ (decimal number ++ (codes ": " ++ reason_text reason))
+cause_text (cause.Blob offset reason) = codes "byte " ++ (decimal offset ++ (codes ": " ++ blob_words reason))
+cause_text c = cause_words c
+
+-- the line of a cause
+abbrev pub line_of : Cause → List ℕ
+line_of c = codes "polytwkb: " ++ (cause_text c ++ codes "\n")
+
+-- the line for a word that is not UTF-8
+abbrev pub no_text_line : List ℕ
+no_text_line = codes "polytwkb: a word is not UTF-8\n"

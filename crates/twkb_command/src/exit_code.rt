@@ -1,6 +1,6 @@
 //! The exit status of a run.
 ghost use Rattle.std.specs.Prelude.{◌≡◌};
-ghost use Rattle.twkb_command.specs.ExitCode.{status_of};
+ghost use Rattle.twkb_command.specs.Outcome.{status_of};
 
 use twkb_convert::Cause;
 

@@ -2,8 +2,7 @@
 ghost use Rattle.std.specs.Prelude.{◌++◌, ◌≤◌, codes, decimal, length};
 ghost use Rattle.twkb_io.specs.declared.TheConstants.{MAX_BYTES};
 ghost use Rattle.twkb_engine.specs.Texts.{blob_words};
-ghost use Rattle.twkb_command.specs.Lines.{cause_text, line_of, reason_text, text_reason};
-ghost use Rattle.twkb_command.specs.Printing.{IsPrinted, Prints};
+ghost use Rattle.twkb_command.specs.Printing.{cause_text, line_of, reason_text, text_reason, IsPrinted, Prints};
 
 use itoa::Buffer;
 use std::io::Write;

@@ -1,8 +1,7 @@
 //! Carrying out a request, and answering words that make none, over any devices.
 ghost use Rattle.std.specs.Prelude.{◌≡◌, ◌≢◌};
 ghost use Rattle.twkb_command.specs.Outcome.{CarriesOut, Refuses};
-ghost use Rattle.twkb_command.specs.Lines.{line_of, no_text_line};
-ghost use Rattle.twkb_command.specs.Printing.{IsPrinted};
+ghost use Rattle.twkb_command.specs.Printing.{line_of, no_text_line, IsPrinted};
 
 use crate::exit_code::{DONE, MEMORY, USAGE, status};
 use crate::lines::{print_line, print_text};

@@ -2,7 +2,7 @@
 ghost use Rattle.std.specs.Prelude.{map, string_bytes};
 ghost use Rattle.clap.specs.Words.{App};
 ghost use Rattle.twkb_command.specs.CommandLine.{IsCommandLine};
-ghost use Rattle.twkb_command.specs.Runs.{Runs};
+ghost use Rattle.twkb_command.specs.Outcome.{Runs};
 
 use crate::outcome::{carry_out, refuse};
 use crate::words::read_words;

@@ -2,10 +2,9 @@
 ghost use Rattle.std.specs.Prelude.{◌≡◌, [], map, string_bytes, codes, IfNone, IfOk, IfErr, IfSome, OnOk};
 ghost use Rattle.clap.specs.Words.{App, FailsBy, fault_of, first_value, found_of, kind_of, one_text, subcommand_of};
 ghost use Rattle.clap.specs.Words.{subcommand_rows_of};
-ghost use Rattle.twkb_command.specs.CommandLine.{IsCommandLine, command_line};
-ghost use Rattle.twkb_command.specs.Words.{AreLimits, AsksFor, GivesNest, GivesNoNest, HasNest, IsAskedBy};
-ghost use Rattle.twkb_command.specs.Words.{IsConversionName, IsRefusal, IsRefusalAmong, IsStyle, Names};
-ghost use Rattle.twkb_command.specs.Words.{NamesConversion, Reads};
+ghost use Rattle.twkb_command.specs.CommandLine.{IsCommandLine, command_line, AreLimits, AsksFor, GivesNest};
+ghost use Rattle.twkb_command.specs.CommandLine.{GivesNoNest, HasNest, IsAskedBy, IsConversionName, IsRefusal};
+ghost use Rattle.twkb_command.specs.CommandLine.{IsRefusalAmong, IsStyle, Names, NamesConversion, Reads};
 
 use crate::command_line::command;
 use crate::refusal::Refusal;

@@ -4,6 +4,3 @@ pub mod FlushLemmas
 pub mod RoundTrips
 pub mod ListingLemmas
 pub mod TableListed
-pub mod OutputLemmas
-pub mod ShownLemmas
-pub mod ShortTexts

@@ -11,41 +11,43 @@ use Rattle.twkb_io.specs.declared.input.InFault.TheVariants as input
 use Rattle.twkb_io.specs.declared.TheConstants.{MAX_BYTES}
 use Rattle.twkb_tree.specs.Tree.{Tree}
 use Rattle.twkb_tree.specs.Rows.{rows, rows_of, Row}
-use Rattle.twkb_grammar.specs.Spans.{spans_of_blob}
+use Rattle.twkb_grammar.specs.Noting.{spans_of_blob}
 use Rattle.twkb_grammar.specs.declared.span.Span.{Span}
 use Rattle.twkb_grammar.proofs.Streams.{blob_long}
 use Rattle.twkb_engine.specs.declared.blob_reason.BlobReason.{BlobReason}
 use Rattle.twkb_engine.specs.Stops.{reason_of}
 use Rattle.twkb_blob.specs.declared.fault.BlobFault.{BlobFault}
 use Rattle.twkb_blob.specs.Located.{ReadsSpans}
-use Rattle.twkb_blob.specs.Readers.{IfGoingOn, IsNext, ReadsNext, ReadsRows, RefusedKnown, failed_by_read, reader_input}
+use Rattle.twkb_blob.specs.Readers.{IfGoingOn, IsNext, ReadsNext, ReadsRows, RefusedKnown, failed_by_read}
+use Rattle.twkb_blob.specs.Readers.{reader_input}
 use Rattle.twkb_blob.specs.declared.fault.BlobFault.TheVariants as blob
 use Rattle.twkb_table.specs.Record.{header, record_of}
 use Rattle.twkb_table.specs.Text.{csvtext, joined}
 use Rattle.twkb_table.proofs.Verdicts.{records-append}
-use Rattle.twkb_convert.specs.Outputs.{rows_text, table_text}
-use Rattle.twkb_convert.specs.Listings.{table_layout, lines_layout}
-use Rattle.twkb_convert.specs.BlobReading.{EndsBlobs, Follows, GivesText, IsBetween, Misses, MissesText, RefusesBlob}
-use Rattle.twkb_convert.specs.BlobReading.{given, is_input_spent, is_read, limits_of, reader_failures, rest_of, told_of}
-use Rattle.twkb_convert.specs.BlobReading.{GivesBlob, Used, reader_tap}
-use Rattle.twkb_convert.specs.Causes.{cause_of_blob, cause_of_output}
-use Rattle.twkb_convert.specs.SpanLines.{hex_of, span_lines}
+use Rattle.twkb_convert.specs.Outputs.{rows_text, table_text, Finishes, Flushes, IsFlushed, UnlessRefused, reported}
+use Rattle.twkb_convert.specs.Listings.{table_layout, lines_layout, hex_of, span_lines}
+use Rattle.twkb_convert.specs.Listed.{EndsBlobs, Follows, GivesText, IsBetween, Misses, MissesText, RefusesBlob}
+use Rattle.twkb_convert.specs.Listed.{given, is_input_spent, is_read, limits_of, reader_failures, rest_of, told_of}
+use Rattle.twkb_convert.specs.Listed.{GivesBlob, Used, reader_tap, ExplainsListingCause, Listed, StoppedListing}
+use Rattle.twkb_convert.specs.Causes.{cause_of_blob, cause_of_output, is_write, cause_words}
 use Rattle.twkb_convert.specs.declared.report.Cause.TheVariants as cause
-use Rattle.twkb_convert.specs.Devices.{is_write}
 use Rattle.twkb_convert.specs.BlobsListed.{Ends, IsFresh, Lists, SentSoFar}
-use Rattle.twkb_convert.specs.LastFlush.{Finishes, Flushes, IsFlushed, UnlessRefused, reported}
-use Rattle.twkb_convert.specs.Listed.{ExplainsListingCause, Listed, StoppedListing}
 use Rattle.twkb_convert.proofs.Prelude.{◌≡◌, ◌∙◌, ◌+◌, ◌-◌, ◌<◌, ℕ, Bool, false, List, [], ◌∷◌, ◌++◌, Option, Some}
 use Rattle.twkb_convert.proofs.Prelude.{None, Result, Ok, Err, IfSome, length, ap, arith, refl, sym, subst, inl, inr}
-use Rattle.twkb_convert.proofs.Prelude.{append_assoc, length-append, append-nil, Consumes, IsAtEnd, Ghosts, BeginsWith}
-use Rattle.twkb_convert.proofs.Prelude.{Cut, Took, sent_of, refused_join, took_join, Output, OutFault, Allowance}
-use Rattle.twkb_convert.proofs.Prelude.{Reader, Located, LocatedStream, TellsSpans, blobs_text, listing_text, Layout}
-use Rattle.twkb_convert.proofs.Prelude.{Cause, ◌⊎◌, true, Appends, Sent, count_failure, device_of, failures_of}
-use Rattle.twkb_convert.proofs.Prelude.{is_spent, output_failures, output_tap, Tap, geometries_of, IsDeviceCause}
-use Rattle.twkb_convert.proofs.Prelude.{ConvertFault, Report, IfErr, IfOk}
+use Rattle.twkb_convert.proofs.Prelude.{append_assoc, length-append, append-nil, Consumes, IsAtEnd, Ghosts}
+use Rattle.twkb_convert.proofs.Prelude.{BeginsWith, Cut, Took, sent_of, refused_join, took_join, Output, OutFault}
+use Rattle.twkb_convert.proofs.Prelude.{Allowance, Reader, Located, LocatedStream, TellsSpans, blobs_text}
+use Rattle.twkb_convert.proofs.Prelude.{listing_text, Layout, Cause, ◌⊎◌, true, Appends, Sent, count_failure}
+use Rattle.twkb_convert.proofs.Prelude.{device_of, failures_of, is_spent, output_failures, output_tap, Tap}
+use Rattle.twkb_convert.proofs.Prelude.{geometries_of, IsDeviceCause, ConvertFault, Report, IfErr, IfOk}
 use Rattle.twkb_convert.proofs.FlushLemmas.{explained, put_explained, told_missed, told_put, leaves_refused}
 use Rattle.twkb_convert.proofs.FlushLemmas.{leaves_took, flushed_last, leaves_last, reports_err, reports_ok, when_err}
 use Rattle.twkb_convert.proofs.FlushLemmas.{when_ok, located-append, located-one}
+use Rattle.std.proofs.Common.{◌≤◌}
+use Rattle.twkb_table.proofs.FaultLaws.{short_row}
+use Rattle.twkb_engine.proofs.Parts.{short_blob}
+
+-- ==== The text of a stream's blobs, joined from their parts, and the exits of the loop over them.
 
 -- ==== Texts of rows, joined.
 
@@ -644,3 +646,11 @@ module _ {R W : Type 0} {read : Ghosts R} {layout : Layout} {contents : W → Op
   pub stopped : IfErr report (λ fault. StoppedListing (LocatedStream l 0) geometries_of (listing_text layout) l
       remaining contents reader writer fault after written)
   stopped = when_err report _ (λ fault is. stopped_as fault (sym is ∙ finishes.reports))
+
+-- ==== The text of each cause is short.
+
+-- the text of a cause is short
+pub short_cause : (c : Cause) → length (cause_words c) ≤ 31
+short_cause (cause.Row number reason) = short_row reason
+short_cause (cause.Blob offset reason) = short_blob reason
+short_cause _ = omega arith

@@ -10,14 +10,14 @@ pub use Rattle.std.specs.declared.io.traits.Read.{Ghosts}
 pub use Rattle.twkb_io.specs.Inputs.{BeginsWith}
 pub use Rattle.twkb_io.specs.Taps.{count_failure, device_of, failures_of, bytes_given}
 pub use Rattle.twkb_io.specs.Outputs.{output_tap, sent_of, Refused, Took, is_spent, Cut, Sent, output_failures}
-pub use Rattle.twkb_io.specs.OutputLaws.{refused_join, took_join, took_nothing, sent_join}
+pub use Rattle.twkb_io.specs.Outputs.{refused_join, took_join, took_nothing, sent_join}
 pub use Rattle.twkb_io.specs.declared.tap.Tap.{Tap}
 pub use Rattle.twkb_io.specs.declared.output.Output.{Output}
 pub use Rattle.twkb_io.specs.declared.output.OutFault.{OutFault}
 pub use Rattle.twkb_tree.specs.Tree.{Tree, simple, collection}
 pub use Rattle.twkb_tree.specs.Limits.{Allowance, IsAllowance}
 pub use Rattle.twkb_tree.specs.Rows.{Row, rows, rows_of}
-pub use Rattle.twkb_grammar.specs.Blob.{Stream, Blob}
+pub use Rattle.twkb_grammar.specs.Items.{Stream, Blob}
 pub use Rattle.twkb_grammar.specs.Fault.{FirstFault, Reason, StreamFault}
 pub use Rattle.twkb_grammar.specs.Written.{canonical_blob, canonical_stream}
 pub use Rattle.twkb_grammar.specs.declared.style.Style.{Style}
@@ -28,23 +28,19 @@ pub use Rattle.twkb_blob.specs.declared.reader.Reader.{Reader}
 pub use Rattle.twkb_blob.specs.declared.fault.BlobFault.{BlobFault}
 pub use Rattle.twkb_blob.specs.declared.spans.Located.{Located}
 pub use Rattle.twkb_table.specs.Record.{Record, header, record_of, table}
-pub use Rattle.twkb_table.specs.Named.{Named, NamesNone}
-pub use Rattle.twkb_table.specs.RowFault.{AreComplete, HasNoHeader, all_but_last, RowFault}
+pub use Rattle.twkb_table.specs.RowFault.{Named, NamesNone, AreComplete, HasNoHeader, all_but_last, RowFault}
 pub use Rattle.twkb_table.specs.CsvRecords.{AreRecordsOf, BeginWith, standing}
 pub use Rattle.twkb_table.specs.declared.reason.RowReason.{RowReason}
-pub use Rattle.twkb_convert.specs.Fronts.{FrontOfBlobs, HoldsWhole}
+pub use Rattle.twkb_convert.specs.Parts.{FrontOfBlobs, HoldsWhole, MayBeWritten, IsRefusedText, AreMovedLines}
+pub use Rattle.twkb_convert.specs.Parts.{PackApart, RowsName, all_moved}
 pub use Rattle.twkb_convert.specs.Outputs.{PackTextTo, PackTo, UnpackTo, rows_text, table_text, AtMostOneCut, IsTable}
-pub use Rattle.twkb_convert.specs.RefusedRows.{MayBeWritten, IsRefusedText}
-pub use Rattle.twkb_convert.specs.LocatedBlobs.{LocatedStream, geometries_of, TellsSpans, BeginLocated, ShowTo}
-pub use Rattle.twkb_convert.specs.LocatedBlobs.{lines_text}
-pub use Rattle.twkb_convert.specs.Listings.{Layout, listing_text, blobs_text}
-pub use Rattle.twkb_convert.specs.Devices.{IsDeviceCause, Changes}
+pub use Rattle.twkb_convert.specs.Listings.{LocatedStream, geometries_of, TellsSpans, BeginLocated, ShowTo}
+pub use Rattle.twkb_convert.specs.Listings.{lines_text, Layout, listing_text, blobs_text, span_lines}
+pub use Rattle.twkb_convert.specs.Causes.{IsDeviceCause, Changes}
 pub use Rattle.twkb_convert.specs.declared.report.Cause.{Cause}
 pub use Rattle.twkb_grammar.specs.Bits.{AreBytes}
 pub use Rattle.twkb_grammar.specs.declared.span.Span.{Span}
 pub use Rattle.twkb_table.specs.Text.{csvtext}
-pub use Rattle.twkb_convert.specs.SpanLines.{span_lines}
 pub use Rattle.twkb_convert.specs.declared.report.Report.{Report}
 pub use Rattle.twkb_convert.specs.declared.report.ConvertFault.{ConvertFault}
-pub use Rattle.twkb_grammar.specs.Spans.{moved_span, spans_of_blob}
-pub use Rattle.twkb_convert.specs.Parts.{AreMovedLines, PackApart, RowsName, all_moved}
+pub use Rattle.twkb_grammar.specs.Noting.{moved_span, spans_of_blob}

@@ -1,36 +1,38 @@
--- Packing and unpacking give back what was put in, also in parts and in prefixes of an output.
+-- Packing and unpacking give one output, and give back what was put in, also in parts.
 use Rattle.csv.specs.Reading.{AreRecords, Reached, default_config, strip_bom}
 use Rattle.csv.specs.Machine.{Read, next_record}
 use Rattle.csv.specs.declared.parser.Config.{Config}
 use Rattle.csv.specs.declared.parser.State.{State}
 use Rattle.csv.specs.declared.parser.State.TheVariants.{StartRecord}
-use Rattle.twkb_tree.specs.RowLists.{AreValid, AreGeometries}
+use Rattle.twkb_tree.specs.Rows.{AreValid, AreGeometries}
 use Rattle.twkb_tree.proofs.LimitLaws.{valid_front}
 use Rattle.twkb_tree.proofs.RowLaws.{at_root, first_ended, below_root}
 use Rattle.twkb_grammar.proofs.Streams.{no_stream, one_stream, written_stream, behind_stream, fault-append}
-use Rattle.twkb_grammar.proofs.Streams.{stream-append}
-use Rattle.twkb_grammar.proofs.SpanLaws.{blob_moved}
+use Rattle.twkb_grammar.proofs.Streams.{stream-append, one_stream_fault, stream_or_fault}
+use Rattle.twkb_grammar.proofs.NotedSpans.{blob_moved}
 use Rattle.twkb_table.specs.TableReading.{NameSoFar}
-use Rattle.twkb_table.specs.Parts.{BeginAtRoot}
-use Rattle.twkb_table.proofs.FaultLaws.{fault_none, later_none}
-use Rattle.twkb_table.proofs.ReadBack.{text_read}
-use Rattle.twkb_table.proofs.Verdicts.{one_table, geometries, split, table_front, named_cut, named_joined}
+use Rattle.twkb_table.specs.Text.{BeginAtRoot}
+use Rattle.twkb_table.proofs.FaultLaws.{fault_none, later_none, one_complete, some_complete, named_or_fault}
+use Rattle.twkb_table.proofs.RowReaderLemmas.{text_read}
+use Rattle.twkb_table.proofs.Verdicts.{one_table as named_table, geometries, split, table_front, named_cut}
+use Rattle.twkb_table.proofs.Verdicts.{named_joined}
 use Rattle.twkb_table.proofs.FieldLemmas.{head_same, tail_same}
 use Rattle.twkb_table.proofs.TableSteps.{never_none}
 use Rattle.twkb_convert.proofs.Prelude.{◌≡◌, ◌∙◌, ℕ, List, [], ◌∷◌, None, ap, refl, sym, subst, inl, inr, Tree}
 use Rattle.twkb_convert.proofs.Prelude.{Allowance, IsAllowance, Stream, canonical_stream, Style, Record, table, Named}
 use Rattle.twkb_convert.proofs.Prelude.{AreComplete, NamesNone, RowReason, map-append, AreRecordsOf, IsTable}
-use Rattle.twkb_convert.proofs.Prelude.{PackTextTo, PackTo, UnpackTo}
-use Rattle.twkb_convert.proofs.Prelude.{table_text, ◌⊎◌, map, ◌++◌, Some, append_assoc, append-nil, flat_map-append}
-use Rattle.twkb_convert.proofs.Prelude.{BeginsWith, Row, rows, rows_of, FirstFault, Reason, canonical_blob, header}
-use Rattle.twkb_convert.proofs.Prelude.{record_of, HasNoHeader, all_but_last, BeginWith, FrontOfBlobs, rows_text}
-use Rattle.twkb_convert.proofs.Prelude.{MayBeWritten, ◌+◌, length, arith, append_cancel_left, StreamFault, moved_span}
-use Rattle.twkb_convert.proofs.Prelude.{csvtext, Located, BeginLocated, LocatedStream, ShowTo, geometries_of}
-use Rattle.twkb_convert.proofs.Prelude.{lines_text, AreMovedLines, PackApart, RowsName, all_moved, span_lines}
+use Rattle.twkb_convert.proofs.Prelude.{PackTextTo, PackTo, UnpackTo, table_text, ◌⊎◌, map, ◌++◌, Some, append_assoc}
+use Rattle.twkb_convert.proofs.Prelude.{append-nil, flat_map-append, BeginsWith, Row, rows, rows_of, FirstFault}
+use Rattle.twkb_convert.proofs.Prelude.{Reason, canonical_blob, header, record_of, HasNoHeader, all_but_last}
+use Rattle.twkb_convert.proofs.Prelude.{BeginWith, FrontOfBlobs, rows_text, MayBeWritten, ◌+◌, length, arith}
+use Rattle.twkb_convert.proofs.Prelude.{append_cancel_left, StreamFault, moved_span, csvtext, Located, BeginLocated}
+use Rattle.twkb_convert.proofs.Prelude.{LocatedStream, ShowTo, geometries_of, lines_text, AreMovedLines, PackApart}
+use Rattle.twkb_convert.proofs.Prelude.{RowsName, all_moved, span_lines, AreBytes, RowFault, IsRefusedText}
 use Rattle.twkb_convert.proofs.ListingLemmas.{table_text-append, table_text-rows}
-use Rattle.twkb_convert.proofs.FlushLemmas.{located-append, located-stream}
-use Rattle.twkb_convert.proofs.ShownLemmas.{Begins, each_other, fault_no_blob, located_first, one_shown}
-use Rattle.twkb_convert.proofs.ShownLemmas.{some_located_stream}
+use Rattle.twkb_convert.proofs.FlushLemmas.{located-append, located-stream, Begins, each_other, fault_no_blob}
+use Rattle.twkb_convert.proofs.FlushLemmas.{located_first, one_shown, some_located_stream}
+
+-- ==== Packing and unpacking give back what was put in, also in parts and in prefixes of an output.
 
 -- ==== Packing and unpacking give back what was put in.
 
@@ -85,7 +87,7 @@ pub packed_records : (style : Style) (l : Allowance) (records : List Record) (by
     (gs : List Tree) → IsAllowance l → Named l records gs → PackTo style l records bytes
     → bytes ≡ canonical_stream style gs
 packed_records style l records bytes gs allowed named (inl (hs, other, e)) = e
-    ∙ ap (canonical_stream style) (one_table l records hs gs allowed other named)
+    ∙ ap (canonical_stream style) (named_table l records hs gs allowed other named)
 packed_records style l records bytes gs allowed named (inr (number, reason, hs, complete, e)) =
     absurd (complete_none l records number reason hs complete gs named)
 
@@ -188,7 +190,7 @@ named_first l (h ∷ front) tail gs hs allowed a b =
           ∙ ap (λ qs. header ∷ qs) (sym s.fronts ∙ ap (λ qs. map record_of qs) (sym v.2));
       valid = v.1;
     } in
-    let same : rows_of gs ≡ s.front = ap rows_of (one_table l (h ∷ front) gs v.0 allowed a named) ∙ v.2 in
+    let same : rows_of gs ≡ s.front = ap rows_of (named_table l (h ∷ front) gs v.0 allowed a named) ∙ v.2 in
     come_first gs hs s.more (geometries l gs a.valid) (geometries l hs b.valid)
     (s.whole ∙ ap (λ rs. rs ++ s.more) (sym same))
 
@@ -219,7 +221,7 @@ ready_named l text records (s ∷ seen) trees gs hs allowed all begins named (in
 ready_named l text records (s ∷ seen) trees gs hs allowed all begins named (inr (ended, e)) other =
     let same : s ∷ seen ≡ records = one_records text (s ∷ seen) records ended all in (
       [],
-      one_table l records hs trees allowed other (subst (λ r. Named l r trees) same named)
+      named_table l records hs trees allowed other (subst (λ r. Named l r trees) same named)
           ∙ sym e ∙ sym (append-nil gs),
     )
 
@@ -461,3 +463,97 @@ shown_joined l a b gs first second s one other =
     let (bs, located, are) = some_located_stream l 0 a gs s in
     located_after l a b first second bs located (one_shown l a first (lines_text bs) one
     (inl (bs, located, refl))) other
+
+-- ==== Any records are packed to one output, with one refused too, and any bytes are unpacked to
+-- one.
+
+-- ==== Any records are packed to one output, and any bytes are unpacked to one.
+
+some_of : (style : Style) (l : Allowance) (records : List Record)
+    → ((gs : List Tree) × Named l records gs) ⊎ ((number : ℕ) × (reason : RowReason)
+    × RowFault l records number reason) → (bytes : List ℕ) × PackTo style l records bytes
+some_of style l records (inl (gs, named)) = (canonical_stream style gs, inl (gs, named, refl))
+some_of style l records (inr (number, reason, fault)) =
+    let complete = some_complete l records number reason fault in
+    (canonical_stream style complete.0, inr (number, reason, complete.0, complete.1, refl))
+
+pub some_output : (style : Style) (l : Allowance) (records : List Record) → IsAllowance l
+    → (bytes : List ℕ) × PackTo style l records bytes
+some_output style l records cap = some_of style l records (named_or_fault l records cap)
+
+pub one_output : (style : Style) (l : Allowance) (records : List Record) (a b : List ℕ)
+    → IsAllowance l → PackTo style l records a → PackTo style l records b → a ≡ b
+one_output style l records a b cap (inl (gs, named, out)) packed = out
+    ∙ sym (packed_records style l records b gs cap named packed)
+one_output style l records a b cap (inr (m, why, gs, complete, out)) (inl (hs, named, other)) =
+    absurd (complete_none l records m why gs complete hs named)
+one_output style l records a b cap (inr (m, why, gs, complete, out)) (inr (n, reason, hs, others, other)) =
+    out ∙ ap (canonical_stream style) (one_complete l records m n why reason gs hs cap complete others) ∙ sym other
+
+-- ---- tables
+
+some_table_of : (l : Allowance) (bytes : List ℕ) → ((gs : List Tree) × Stream l bytes gs)
+    ⊎ ((gs : List Tree) × (offset : ℕ) × (reason : Reason) × StreamFault l bytes gs offset reason)
+    → (text : List ℕ) × UnpackTo l bytes text
+some_table_of l bytes (inl (gs, stream)) = (table_text gs, inl (gs, stream, refl))
+some_table_of l bytes (inr (gs, offset, reason, fault)) = (table_text gs, inr (offset, reason, gs, fault, refl))
+
+pub some_table : (l : Allowance) (bytes : List ℕ) → IsAllowance l → AreBytes bytes → (text : List ℕ)
+    × UnpackTo l bytes text
+some_table l bytes cap are = some_table_of l bytes (stream_or_fault l bytes cap are)
+
+pub one_table : (l : Allowance) (bytes a b : List ℕ) → UnpackTo l bytes a → UnpackTo l bytes b → a ≡ b
+one_table l bytes a b (inl (gs, stream, out)) unpacked = out ∙ sym (unpacked_stream l bytes b gs stream unpacked)
+one_table l bytes a b (inr first) (inl (hs, stream, other)) = unpacked_stream l bytes a hs stream
+    (inr first) ∙ sym other
+one_table l bytes a b (inr (m, why, gs, fault, out)) (inr (n, reason, hs, others, other)) =
+    out ∙ ap table_text (one_stream_fault l bytes gs hs m n why reason fault others).0 ∙ sym other
+
+-- ==== A record refused at the beginning of a text is refused in the whole text, and the geometries complete before
+-- it are the output.
+
+-- more records change no refusal, unless there were no records
+complete_more : (l : Allowance) (seen more : List Record) (number : ℕ) (reason : RowReason)
+    (gs : List Tree) → (seen ≡ [] → more ≡ []) → AreComplete l seen number reason gs
+    → AreComplete l (seen ++ more) number reason gs
+complete_more l [] more number reason gs only (inl first) =
+    subst (λ rs. AreComplete l rs number reason gs) (sym (only refl)) (inl first)
+complete_more l (s ∷ seen) more number reason gs only (inl first) = inl first
+complete_more l seen more number reason gs only (inr (later, same)) =
+    inr (
+      record {
+        before = later.before;
+        here = later.here;
+        more = later.more ++ more;
+        split = ap (λ rs. rs ++ more) later.split ∙ append_assoc later.before (later.here ∷ later.more) more;
+        place = later.place;
+        geometries = later.geometries;
+        named = later.named;
+        none = later.none;
+        judged = later.judged;
+      },
+      same,
+    )
+
+pub refused_all : (l : Allowance) (text : List ℕ) (records : List Record) (number : ℕ)
+    (reason : RowReason) (gs : List Tree) → IsRefusedText l text records number reason gs
+    → AreComplete l records number reason gs
+refused_all l text records number reason gs (all, refused) =
+    let (more, whole) = first_records text records refused.seen all refused.begins in
+    let only : refused.seen ≡ [] → more ≡ [] = λ none. sym (whole ∙ ap (λ rs. rs ++ more) none)
+    ∙ one_records text records [] all (refused.none none) in
+    subst (λ rs. AreComplete l rs number reason gs) (sym whole)
+    (complete_more l refused.seen more number reason gs only refused.fault)
+
+pub refused_none : (l : Allowance) (text : List ℕ) (records : List Record) (number : ℕ)
+    (reason : RowReason) (gs : List Tree) → IsRefusedText l text records number reason gs
+    → NamesNone l records
+refused_none l text records number reason gs refused = complete_none l records number reason gs
+    (refused_all l text records number reason gs refused)
+
+pub refused_output : (style : Style) (l : Allowance) (text : List ℕ) (records : List Record)
+    (number : ℕ) (reason : RowReason) (gs : List Tree)
+    → IsRefusedText l text records number reason gs
+    → PackTo style l records (canonical_stream style gs)
+refused_output style l text records number reason gs refused = inr
+    (number, reason, gs, refused_all l text records number reason gs refused, refl)

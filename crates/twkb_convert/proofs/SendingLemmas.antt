@@ -8,9 +8,9 @@ use Rattle.twkb_io.specs.declared.output.OutFault.TheVariants as out
 use Rattle.twkb_io.specs.Taps.{has_unflushed}
 use Rattle.twkb_tree.specs.Tree.{nodes, saturated, Simple, point, IsTree, IsPrecision}
 use Rattle.twkb_tree.specs.Rows.{own_row}
-use Rattle.twkb_grammar.specs.Spans.{geometries}
+use Rattle.twkb_grammar.specs.Noting.{geometries}
 use Rattle.twkb_writer.specs.MeasuredRows.{Measures}
-use Rattle.twkb_writer.specs.PointBlob.{one_point}
+use Rattle.twkb_writer.specs.Bytes.{one_point}
 use Rattle.twkb_table.specs.RowReading.{waiting}
 use Rattle.twkb_table.specs.TableReading.{GivesRows, HaveGiven, Progress, ReachesEnd, StandsAfter, StandsAt, progress}
 use Rattle.twkb_table.specs.TableReading as Table
@@ -19,16 +19,13 @@ use Rattle.twkb_table.specs.declared.table_reader.TableReader.{TableReader}
 use Rattle.twkb_table.specs.declared.table_fault.TableFault.TheVariants as table_fault
 use Rattle.twkb_table.specs.Waiting.{is_over, point_row}
 use Rattle.twkb_table.proofs.TableSteps.{all_but_last-last, names_so_far, text_begins}
-use Rattle.twkb_convert.specs.CountedWork.{AddsWork, IsWorkOf, points, total, no_work}
-use Rattle.twkb_convert.specs.WrittenBlob.{CutsBlob, WritesBlob}
-use Rattle.twkb_convert.specs.Causes.{cause_of_output, cause_of_table, after_reads}
-use Rattle.twkb_convert.specs.Devices.{is_write}
-use Rattle.twkb_convert.specs.ReaderEnd.{Drains}
-use Rattle.twkb_convert.specs.LastFlush.{Flushes, Finishes, UnlessRefused}
-use Rattle.twkb_convert.specs.SentGeometries.{Ends, SendsTable, SentSoFar, EndsTable}
+use Rattle.twkb_convert.specs.Packed.{AddsWork, IsWorkOf, points, total, no_work, ExplainsPackingCause, PackedWith}
+use Rattle.twkb_convert.specs.Packed.{StoppedPacking}
+use Rattle.twkb_convert.specs.SentGeometries.{CutsBlob, WritesBlob, Ends, SendsTable, SentSoFar, EndsTable}
+use Rattle.twkb_convert.specs.Causes.{cause_of_output, cause_of_table, after_reads, is_write, Drains}
+use Rattle.twkb_convert.specs.Outputs.{Flushes, Finishes, UnlessRefused}
 use Rattle.twkb_convert.specs.declared.sent_geometries.Sent.{Sent}
 use Rattle.twkb_convert.specs.declared.report.Cause.TheVariants as cause
-use Rattle.twkb_convert.specs.Packed.{ExplainsPackingCause, PackedWith, StoppedPacking}
 use Rattle.twkb_convert.proofs.Prelude.{◌≡◌, ◌≢◌, ◌∙◌, ◌⊎◌, ◌+◌, ◌<◌, ◌≤◌, ℕ, Bool, true, false, List, [], ◌∷◌, ◌++◌}
 use Rattle.twkb_convert.proofs.Prelude.{Option, Result, Ok, Err, length, ap, arith, refl, sym, subst, inl, inr}
 use Rattle.twkb_convert.proofs.Prelude.{length-append, IfSome, append-nil, flat_map-append, Cut, is_spent, sent_of}

@@ -7,7 +7,7 @@ use Rattle.twkb_convert.proofs.Prelude.{table_text, LocatedStream, geometries_of
 use Rattle.twkb_convert.proofs.Prelude.{ConvertFault, Cause}
 use Rattle.twkb_convert.specs.Listings.{table_layout}
 use Rattle.twkb_convert.specs.Listed.{ExplainsListingCause, Listed, StoppedListing}
-use Rattle.twkb_convert.specs.Unpacked.{StoppedUnpacking, Unpacked}
+use Rattle.twkb_convert.specs.Packed.{StoppedUnpacking, Unpacked}
 use Rattle.twkb_convert.specs.declared.report.Cause.TheVariants as causes
 use Rattle.twkb_convert.proofs.FlushLemmas.{located-stream}
 use Rattle.twkb_convert.proofs.ListingLemmas.{table_of_blobs}

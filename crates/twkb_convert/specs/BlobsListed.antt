@@ -6,13 +6,12 @@ use Rattle.twkb_io.specs.Outputs.{Took, is_spent, sent_of}
 use Rattle.twkb_io.specs.declared.output.Output.{Output}
 use Rattle.twkb_blob.specs.declared.reader.Reader.{Reader}
 use Rattle.twkb_blob.specs.declared.spans.Located.{Located}
-use Rattle.twkb_convert.specs.BlobReading.{Follows, IsBetween, Used, given, limits_of, rest_of, told_of}
-use Rattle.twkb_convert.specs.Devices.{IsDeviceCause, is_write}
-use Rattle.twkb_convert.specs.LastFlush.{Leaves}
-use Rattle.twkb_convert.specs.Fronts.{FrontOfText}
+use Rattle.twkb_convert.specs.Listed.{Follows, IsBetween, Used, given, limits_of, rest_of, told_of}
 use Rattle.twkb_convert.specs.Listed.{ExplainsListingCause}
-use Rattle.twkb_convert.specs.Listings.{Layout, listing_text}
-use Rattle.twkb_convert.specs.LocatedBlobs.{LocatedStream, geometries_of}
+use Rattle.twkb_convert.specs.Causes.{IsDeviceCause, is_write}
+use Rattle.twkb_convert.specs.Outputs.{Leaves}
+use Rattle.twkb_convert.specs.Parts.{FrontOfText}
+use Rattle.twkb_convert.specs.Listings.{Layout, listing_text, LocatedStream, geometries_of}
 use Rattle.twkb_convert.specs.declared.report.Cause.{Cause}
 
 -- Nothing was read or sent yet, and no call was refused.

@@ -1,16 +1,16 @@
--- What the conversions promise, in one record each.
-use Rattle.std.specs.Prelude.{ℕ, List, Option, Result, IfOk, IfErr}
+-- What the conversions promise, in one record each, and the version.
+use Rattle.std.specs.Prelude.{ℕ, List, Option, Result, IfOk, IfErr, codes}
 use Rattle.twkb_io.specs.declared.tap.Tap.{Tap}
 use Rattle.twkb_tree.specs.Limits.{Allowance}
 use Rattle.twkb_grammar.specs.declared.style.Style.{Style}
-use Rattle.twkb_convert.specs.LastFlush.{IsFlushed, IsFlushedButForDevices}
-use Rattle.twkb_convert.specs.Packed.{Packed, StoppedPacking}
-use Rattle.twkb_convert.specs.Unpacked.{StoppedUnpacking, Unpacked}
-use Rattle.twkb_convert.specs.Shown.{Shown, StoppedShowing}
+use Rattle.twkb_convert.specs.Outputs.{IsFlushed, IsFlushedButForDevices}
+use Rattle.twkb_convert.specs.Packed.{Packed, StoppedPacking, StoppedUnpacking, Unpacked, Shown, StoppedShowing}
 use Rattle.twkb_convert.specs.declared.conversion.Conversion.{Conversion}
 use Rattle.twkb_convert.specs.declared.conversion.Conversion.TheVariants as conversion
 use Rattle.twkb_convert.specs.declared.report.ConvertFault.{ConvertFault}
 use Rattle.twkb_convert.specs.declared.report.Report.{Report}
+
+-- ==== What the conversions promise, in one record each.
 
 -- The result of packing: the whole table was packed, or it stopped.
 pub record Packs {R W : Type 0} (style : Style) (l : Allowance) (remaining : R → Option (List ℕ))
@@ -46,3 +46,9 @@ Converts conversion.Unpack l remaining contents reader writer reader_after write
     Unpacks l remaining contents reader writer reader_after writer_after answer
 Converts conversion.Show l remaining contents reader writer reader_after writer_after answer =
     Shows l remaining contents reader writer reader_after writer_after answer
+
+-- ==== The version of the command and of the library (profile).
+
+-- the version, as `--version` prints it
+abbrev pub version_text : List ℕ
+version_text = codes "0.1.0"

@@ -1,23 +1,86 @@
--- The result of packing a table.
-use Rattle.std.specs.Prelude.{◌≡◌, ℕ, ◌-◌, ◌^◌, ◌<◌, ◌≤◌, ◌*◌, ◌⊎◌, List, [], ◌++◌, length, Option, ⊤}
+-- The results of packing a table, and of unpacking or showing a stream, and the work of packing.
+use Rattle.std.specs.Prelude.{ℕ, List, Option, ◌≡◌, ◌+◌, ◌*◌, ◌≤◌, [], ◌∷◌, length, ◌-◌, ◌^◌, ◌<◌, ◌⊎◌, ◌++◌, ⊤}
+use Rattle.twkb_io.specs.declared.tap.Tap.{Tap}
+use Rattle.twkb_tree.specs.Limits.{Allowance}
+use Rattle.twkb_grammar.specs.Items.{Stream}
+use Rattle.twkb_convert.specs.Outputs.{table_text, AtMostOneCut}
+use Rattle.twkb_convert.specs.Listed.{Listed, StoppedListing}
+use Rattle.twkb_convert.specs.declared.report.Report.{Report}
+use Rattle.twkb_convert.specs.declared.report.ConvertFault.{ConvertFault}
+use Rattle.twkb_convert.specs.Listings.{LocatedStream, geometries_of, lines_text}
+use Rattle.twkb_tree.specs.Tree.{Tree, flat, nodes, saturated}
+use Rattle.twkb_flat.specs.declared.work.Work.{Work}
+use Rattle.twkb_grammar.specs.Noting.{geometries}
 use Rattle.std.specs.Io.KnownBytes.{Appends, IsAtEnd}
 use Rattle.twkb_io.specs.declared.TheConstants.{MAX_BYTES}
 use Rattle.twkb_io.specs.Taps.{bytes_given, device_of, failures_of}
-use Rattle.twkb_io.specs.declared.tap.Tap.{Tap}
-use Rattle.twkb_tree.specs.Tree.{Tree}
-use Rattle.twkb_tree.specs.Limits.{Allowance}
-use Rattle.twkb_flat.specs.declared.work.Work.{Work}
 use Rattle.twkb_grammar.specs.Written.{canonical_stream}
 use Rattle.twkb_grammar.specs.declared.style.Style.{Style}
-use Rattle.twkb_convert.specs.CountedWork.{IsWorkOf}
-use Rattle.twkb_convert.specs.Devices.{Changes, DevicesTell}
-use Rattle.twkb_convert.specs.Outputs.{AtMostOneCut}
-use Rattle.twkb_convert.specs.Fronts.{FrontOfBlobs}
-use Rattle.twkb_convert.specs.RefusedRows.{HasTooMany, IsRefusedAt, NamesAll, WholeTable}
+use Rattle.twkb_convert.specs.Causes.{Changes, DevicesTell}
+use Rattle.twkb_convert.specs.Parts.{FrontOfBlobs, HasTooMany, IsRefusedAt, NamesAll, WholeTable}
 use Rattle.twkb_convert.specs.declared.report.Cause.{Cause}
 use Rattle.twkb_convert.specs.declared.report.Cause.TheVariants as cause
-use Rattle.twkb_convert.specs.declared.report.ConvertFault.{ConvertFault}
-use Rattle.twkb_convert.specs.declared.report.Report.{Report}
+
+-- ==== The result of unpacking a stream.
+
+-- All bytes of the reader are a stream, and the writer took the text of its table.
+abbrev pub Unpacked : {R W : Type 0} → Allowance → (R → Option (List ℕ)) → (W → Option (List ℕ))
+    → Tap R → Tap W → Report → Tap R → Tap W → Type 0
+Unpacked l = Listed (Stream l) table_text
+
+-- The bytes of the reader begin with blobs, and the writer took a prefix of the text of their
+-- table, with all rows of the first ones.
+abbrev pub StoppedUnpacking : {R W : Type 0} → Allowance → (R → Option (List ℕ))
+    → (W → Option (List ℕ)) → Tap R → Tap W → ConvertFault → Tap R → Tap W → Type 0
+StoppedUnpacking l = StoppedListing (Stream l) (λ trees. trees) table_text l
+
+-- ==== The result of showing a stream.
+
+-- All bytes of the reader are a stream, and the writer took the lines of its blobs.
+abbrev pub Shown : {R W : Type 0} → Allowance → (R → Option (List ℕ)) → (W → Option (List ℕ))
+    → Tap R → Tap W → Report → Tap R → Tap W → Type 0
+Shown l = Listed (LocatedStream l 0) lines_text
+
+-- The bytes of the reader begin with blobs, and the writer took a prefix of their lines, with all
+-- lines of the first ones.
+abbrev pub StoppedShowing : {R W : Type 0} → Allowance → (R → Option (List ℕ))
+    → (W → Option (List ℕ)) → Tap R → Tap W → ConvertFault → Tap R → Tap W → Type 0
+StoppedShowing l = StoppedListing (LocatedStream l 0) geometries_of lines_text l
+
+-- ==== The work of packing geometries.
+
+-- the number of points of a geometry
+abbrev pub points : Tree → ℕ
+points g = length (flat g)
+
+-- the work of no geometry
+abbrev pub no_work : Work
+no_work = record { points = 0; nodes = 0; entries = 0; point_reads = 0; node_reads = 0 }
+
+-- the sum of a count over geometries
+abbrev pub total : (Tree → ℕ) → List Tree → ℕ
+total count [] = 0
+total count (g ∷ gs) = count g + total count gs
+
+-- One more geometry was measured and written, with each point read at most twice and each node at
+-- most three times.
+pub record AddsWork (g : Tree) (old new : Work) : Type 0 where
+  pub more_points : new.points ≡ saturated (old.points + points g)
+  pub more_nodes : new.nodes ≡ saturated (old.nodes + nodes g)
+  pub more_entries : new.entries ≡ saturated (old.entries + geometries g)
+  pub point_reads : new.point_reads ≤ old.point_reads + 2 * points g
+  pub node_reads : new.node_reads ≤ old.node_reads + 3 * nodes g
+
+-- The work of packing these geometries: their points, nodes and TWKB geometries, each sum capped
+-- at the greatest u64, and at most two reads of each point and three of each node.
+pub record IsWorkOf (gs : List Tree) (work : Work) : Type 0 where
+  pub all_points : work.points ≡ saturated (total points gs)
+  pub all_nodes : work.nodes ≡ saturated (total nodes gs)
+  pub all_entries : work.entries ≡ saturated (total geometries gs)
+  pub point_reads : work.point_reads ≤ 2 * total points gs
+  pub node_reads : work.node_reads ≤ 3 * total nodes gs
+
+-- ==== The result of packing a table.
 
 -- The records of the reader's text, fewer than RECORD_CAP, name geometries, and their canonical
 -- stream in this style was written after the bytes that the writer held. No device failed, and

@@ -1,24 +1,25 @@
--- How far the geometries of a table were sent.
-use Rattle.std.specs.Prelude.{◌≡◌, ℕ, ◌<◌, ◌≤◌, ◌-◌, ◌^◌, List, [], length, Option, Result, Ok, Err, false}
-use Rattle.twkb_io.specs.Outputs.{Took, is_spent, sent_of}
+-- How far the geometries of a table were sent, and the blob of each.
+use Rattle.std.specs.Prelude.{◌≡◌, ℕ, ◌<◌, ◌≤◌, ◌-◌, ◌^◌, List, [], length, Option, Result, Ok, Err, false, ◌⊎◌}
+use Rattle.twkb_io.specs.Outputs.{Took, is_spent, sent_of, Cut}
 use Rattle.twkb_io.specs.declared.output.Output.{Output}
 use Rattle.twkb_tree.specs.Tree.{Tree}
 use Rattle.twkb_tree.specs.Limits.{Allowance}
 use Rattle.twkb_flat.specs.declared.work.Work.{Work}
-use Rattle.twkb_grammar.specs.Written.{canonical_stream}
+use Rattle.twkb_grammar.specs.Written.{canonical_stream, canonical_blob}
 use Rattle.twkb_grammar.specs.declared.style.Style.{Style}
 use Rattle.twkb_table.specs.Record.{Record}
 use Rattle.twkb_table.specs.TableReading.{StandsAfter}
 use Rattle.twkb_table.specs.declared.table_reader.TableReader.{TableReader}
-use Rattle.twkb_convert.specs.CountedWork.{IsWorkOf}
-use Rattle.twkb_convert.specs.LastFlush.{Leaves}
-use Rattle.twkb_convert.specs.Fronts.{FrontOfBlobs}
-use Rattle.twkb_convert.specs.Outputs.{AtMostOneCut}
-use Rattle.twkb_convert.specs.Packed.{ExplainsPackingCause}
-use Rattle.twkb_convert.specs.RefusedRows.{WholeTable}
+use Rattle.twkb_convert.specs.Packed.{IsWorkOf, AddsWork, ExplainsPackingCause}
+use Rattle.twkb_convert.specs.Outputs.{Leaves, AtMostOneCut}
+use Rattle.twkb_convert.specs.Parts.{FrontOfBlobs, WholeTable}
 use Rattle.twkb_convert.specs.declared.report.Cause.{Cause}
 use Rattle.twkb_convert.specs.declared.sent_geometries.Sent.{Sent}
 use Rattle.twkb_convert.specs.declared.report.Cause.TheVariants as cause
+use Rattle.twkb_io.specs.declared.output.OutFault.{OutFault}
+use Rattle.twkb_convert.specs.Causes.{cause_of_output}
+
+-- ==== How far the geometries of a table were sent.
 
 -- The geometries of the table so far were sent, by an output that had sent nothing before.
 pub record SentSoFar {R W : Type 0} (style : Style) (l : Allowance)
@@ -84,3 +85,16 @@ SendsPoints style remaining contents from old before to new after (Ok done) =
     × SendsMore style remaining contents from old before to new after
 SendsPoints style remaining contents from old before to new after (Err why) =
     EndsAfter style remaining contents from old before new after (Err why)
+
+-- ==== How far the blob of one geometry was sent.
+
+-- The blob was sent, and the work was counted.
+pub record WritesBlob {W : Type 0} (style : Style) (contents : W → Option (List ℕ)) (g : Tree)
+    (old : Output W) (before : Work) (new : Output W) (after : Work) : Type 0 where
+  pub took : Took contents old (canonical_blob style g) new
+  pub work : AddsWork g before after
+
+-- nothing was sent if memory was refused, otherwise a prefix of the blob
+abbrev pub CutsBlob : {W : Type 0} → Style → (W → Option (List ℕ)) → Tree → Output W → Cause → Output W → Type 0
+CutsBlob style contents g old why new = ((why ≡ cause.Memory) × (new ≡ old))
+    ⊎ ((fault : OutFault) × (why ≡ cause_of_output fault) × Cut contents old (canonical_blob style g) fault new)

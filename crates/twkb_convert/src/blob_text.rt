@@ -1,7 +1,7 @@
 //! The texts that are made of a stream's blobs: rows of a table, or lines of headers.
 ghost use Rattle.std.specs.Prelude.{◌≡◌, []};
 ghost use Rattle.twkb_blob.specs.StreamReaders.{reader_in};
-ghost use Rattle.twkb_convert.specs.BlobReading.{IsBetween, ReadsText};
+ghost use Rattle.twkb_convert.specs.Listed.{IsBetween, ReadsText};
 ghost use Rattle.twkb_convert.specs.Listings.{Layout};
 
 use crate::report::Cause;

@@ -1,5 +1,5 @@
 //! The flush of an output, the last act of a conversion.
-ghost use Rattle.twkb_convert.specs.LastFlush.{Finishes};
+ghost use Rattle.twkb_convert.specs.Outputs.{Finishes};
 
 use crate::report::{Cause, ConvertFault, Report};
 use std::io::Write;

@@ -4,22 +4,19 @@ ghost use Rattle.twkb_io.specs.Inputs.{BeginsWith};
 ghost use Rattle.twkb_tree.specs.Tree.{Tree};
 ghost use Rattle.twkb_tree.specs.Limits.{Allowance, IsAllowance};
 ghost use Rattle.twkb_grammar.specs.Bits.{AreBytes};
-ghost use Rattle.twkb_grammar.specs.Blob.{Stream};
+ghost use Rattle.twkb_grammar.specs.Items.{Stream};
 ghost use Rattle.twkb_grammar.specs.Written.{canonical_stream};
 ghost use Rattle.twkb_grammar.specs.declared.style.Style.{Style};
 ghost use Rattle.twkb_table.specs.Record.{Record, header};
-ghost use Rattle.twkb_table.specs.Named.{NamesNone};
-ghost use Rattle.twkb_table.specs.Parts.{BeginAtRoot};
-ghost use Rattle.twkb_table.specs.RowFault.{AreComplete};
+ghost use Rattle.twkb_table.specs.RowFault.{NamesNone, AreComplete};
+ghost use Rattle.twkb_table.specs.Text.{BeginAtRoot, csvtext};
 ghost use Rattle.twkb_table.specs.declared.reason.RowReason.{RowReason};
 ghost use Rattle.twkb_table.specs.CsvRecords.{AreRecordsOf};
-ghost use Rattle.twkb_table.specs.Text.{csvtext};
 ghost use Rattle.twkb_blob.specs.declared.spans.Located.{Located};
-ghost use Rattle.twkb_convert.specs.Fronts.{FrontOfBlobs};
-ghost use Rattle.twkb_convert.specs.LocatedBlobs.{LocatedStream, ShowTo, geometries_of, lines_text};
+ghost use Rattle.twkb_convert.specs.Parts.{FrontOfBlobs, AreMovedLines, PackApart, RowsName, all_moved};
+ghost use Rattle.twkb_convert.specs.Parts.{IsRefusedText};
+ghost use Rattle.twkb_convert.specs.Listings.{LocatedStream, ShowTo, geometries_of, lines_text};
 ghost use Rattle.twkb_convert.specs.Outputs.{IsTable, PackTextTo, PackTo, UnpackTo, table_text};
-ghost use Rattle.twkb_convert.specs.Parts.{AreMovedLines, PackApart, RowsName, all_moved};
-ghost use Rattle.twkb_convert.specs.RefusedRows.{IsRefusedText};
 
 /// If a table's records are those of valid geometries, packing the table, in either style, and
 /// unpacking the result gives a table from which `csv` reads the same records.

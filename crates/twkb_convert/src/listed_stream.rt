@@ -2,13 +2,11 @@
 //! the reader is read again.
 ghost use Rattle.std.specs.Prelude.{◌≡◌, IfOk, IfErr};
 ghost use Rattle.twkb_blob.specs.StreamReaders.{reader_in};
-ghost use Rattle.twkb_convert.specs.LocatedBlobs.{LocatedStream, geometries_of};
-ghost use Rattle.twkb_convert.specs.Listings.{listing_text};
-ghost use Rattle.twkb_convert.specs.LastFlush.{IsFlushed};
+ghost use Rattle.twkb_convert.specs.Listings.{LocatedStream, geometries_of, listing_text};
+ghost use Rattle.twkb_convert.specs.Outputs.{IsFlushed};
 ghost use Rattle.twkb_convert.specs.BlobsListed.{IsFresh, Lists};
 ghost use Rattle.twkb_convert.specs.Listed.{Listed, StoppedListing};
-ghost use Rattle.twkb_convert.specs.Unpacked.{StoppedUnpacking, Unpacked};
-ghost use Rattle.twkb_convert.specs.Shown.{Shown, StoppedShowing};
+ghost use Rattle.twkb_convert.specs.Packed.{StoppedUnpacking, Unpacked, Shown, StoppedShowing};
 
 use crate::blob_text::{BlobText, HeaderLines, TableRows};
 use crate::last_flush::finish;

@@ -2,9 +2,9 @@
 ghost use Rattle.std.specs.Prelude.{◌≡◌, ◌<◌, ◌^◌, true, is_err, IfOk, IfErr};
 ghost use Rattle.twkb_io.specs.Taps.{bytes_given, device_of};
 ghost use Rattle.twkb_grammar.specs.declared.style.Style.TheVariants.{Full};
-ghost use Rattle.twkb_convert.specs.LastFlush.{IsFlushedButForDevices};
+ghost use Rattle.twkb_convert.specs.Outputs.{IsFlushedButForDevices};
 ghost use Rattle.twkb_convert.specs.Packed.{Packed, PackedWith, StoppedPacking};
-ghost use Rattle.twkb_convert.specs.ReaderEnd.{Drains};
+ghost use Rattle.twkb_convert.specs.Causes.{Drains};
 
 use crate::causes::after_reads;
 use crate::last_flush::finish;

@@ -1,6 +1,6 @@
 //! The answer of a conversion: a report, or a fault.
 ghost use Rattle.std.specs.Prelude.{◌≡◌, ◌≤◌, length};
-ghost use Rattle.twkb_convert.specs.Texts.{cause_words};
+ghost use Rattle.twkb_convert.specs.Causes.{cause_words};
 
 use thiserror::Error;
 use twkb_blob::BlobReason;
@@ -41,7 +41,7 @@ pub enum Cause {
 
 impl Cause {
     /// The cause in a few words, at most 31 bytes, without its place. Takes no memory.
-    #[tactic(auto, using(crate::proofs::ShortTexts::short_cause))]
+    #[tactic(auto, using(crate::proofs::ListingLemmas::short_cause))]
     pub fn text(self) -> &'static str
         ensures words { result.now ≡ cause_words self }
         ensures short { length (cause_words self) ≤ 31 }

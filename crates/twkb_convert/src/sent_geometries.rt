@@ -2,8 +2,7 @@
 ghost use Rattle.std.specs.Prelude.{◌≡◌, OnOk, IfErr};
 ghost use Rattle.twkb_tree.specs.Tree.{Tree, IsTree};
 ghost use Rattle.twkb_tree.specs.Rows.{rows};
-ghost use Rattle.twkb_convert.specs.SentGeometries.{EndsAfter, SendsPoints};
-ghost use Rattle.twkb_convert.specs.WrittenBlob.{CutsBlob, WritesBlob};
+ghost use Rattle.twkb_convert.specs.SentGeometries.{EndsAfter, SendsPoints, CutsBlob, WritesBlob};
 
 use crate::report::Cause;
 use std::alloc::Global;

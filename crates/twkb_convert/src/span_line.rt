@@ -1,7 +1,7 @@
 //! The lines that `show` prints, one for each span.
 ghost use Rattle.std.specs.Prelude.{◌≡◌, ◌<◌, ◌≤◌, ◌+◌, [], ◌∷◌, ◌++◌, OnOk, decimal, length, true};
 ghost use Rattle.std.specs.Fmt.{digit_glyph, signed_decimal};
-ghost use Rattle.twkb_convert.specs.SpanLines.{Adds, span_line, span_lines};
+ghost use Rattle.twkb_convert.specs.Listings.{Adds, span_line, span_lines};
 
 use itoa::{Buffer, Integer};
 use std::alloc::AllocError;

@@ -1,10 +1,5 @@
-pub mod Collections
-pub mod Fields
 pub mod Items
-pub mod Parts
-pub mod Lists
 pub mod Steps
-pub mod Feeds
-pub mod Answering
+pub mod Parts
 pub mod Points
-pub mod ShortTexts
+pub mod Answering

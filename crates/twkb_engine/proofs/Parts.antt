@@ -1,14 +1,15 @@
 -- The parts of a header, and the members and ends of geometries.
 use Rattle.std.proofs.Common.{◌≡◌, ℕ, ◌+◌, ◌-◌, ◌<◌, ◌≤◌, ◌^◌, [], ◌∷◌, ◌++◌, length, Bool, true, false, ◌&&◌, nat_le}
-use Rattle.std.proofs.Common.{refl, ap, ◌∙◌, OnOk, Result, Ok, Err, None, arith, zero, suc, List, sym, subst, IfOk, ◌⊎◌}
-use Rattle.std.proofs.Common.{length-append, nat_lt, Some, ◌%◌, ◌/◌, append_assoc, append-nil, take, drop, ◌||◌, nat_eq}
+use Rattle.std.proofs.Common.{refl, ap, ◌∙◌, OnOk, Result, Ok, Err, None, arith, zero, suc, List, sym, subst, IfOk}
+use Rattle.std.proofs.Common.{◌⊎◌, length-append, nat_lt, Some, ◌%◌, ◌/◌, append_assoc, append-nil, take, drop, ◌||◌}
+use Rattle.std.proofs.Common.{nat_eq}
 use Rattle.std.specs.Prelude.{if◌then◌else◌, ℤ, Option, pos, get_or}
 use Rattle.std.proofs.lemmas.Bool.Decides.{nat_tests}
 use Rattle.std.specs.Result.{IsErrAnd}
 use Rattle.std.proofs.lemmas.Result.{err_from_is_err_and}
 use Rattle.std.proofs.Math.Seq.{take-suc}
 use Rattle.std.proofs.lemmas.List.{length-drop, take_rest, drop-drop}
-use Rattle.twkb_num.specs.Zigzag.{unzigzag_of}
+use Rattle.twkb_num.specs.Spelling.{unzigzag_of}
 use Rattle.twkb_points.specs.Point.{Point, origin}
 use Rattle.twkb_tree.specs.declared.kind.Kind.{Kind}
 use Rattle.twkb_tree.specs.declared.kind.Kind.TheVariants as kinds
@@ -20,7 +21,7 @@ use Rattle.twkb_grammar.specs.Roles.{where_set, Item}
 use Rattle.twkb_grammar.specs.Roles as role
 use Rattle.twkb_grammar.specs.Fault.{TooManyPoints, Reason, TooManyNodes, nodes_by, nodes_of, points_of, BadType}
 use Rattle.twkb_grammar.specs.Fault.{announces_point}
-use Rattle.twkb_grammar.specs.PlainReader.{unless, is_exact, objection}
+use Rattle.twkb_grammar.specs.Reading.{unless, is_exact, objection}
 use Rattle.twkb_grammar.specs.Machine.{asked, BodyForm, Sums, Many, ManyPoints, ManyGeometries, first_count, kind_at}
 use Rattle.twkb_grammar.specs.Machine.{kind_number}
 use Rattle.twkb_grammar.specs.Machine as machine
@@ -28,16 +29,12 @@ use Rattle.twkb_grammar.specs.Bits.{bit}
 use Rattle.twkb_grammar.specs.Noting.{Notes, note_end, note_ends, note_header, note_metadata, shown}
 use Rattle.twkb_grammar.proofs.Running.{deep_allowed}
 use Rattle.twkb_body.specs.Outline.{begins, FrameOutline, Outline, outline_past_end, outline_ends, shut, Stage, OnId}
-use Rattle.twkb_body.specs.Outline.{OnEnd, members_open, many_counted, OnHeader, OnMetadata}
-use Rattle.twkb_body.specs.Reading.{open_count}
-use Rattle.twkb_body.specs.Head.{head_of, kind_of, form_of, many_of, IsHeadAt}
+use Rattle.twkb_body.specs.Outline.{OnEnd, members_open, many_counted, OnHeader, OnMetadata, ids_read}
+use Rattle.twkb_body.specs.Reading.{open_count, NotedOutline, notes_in}
+use Rattle.twkb_body.specs.Header.{head_of, kind_of, form_of, many_of, IsHeadAt, HeaderInFront}
 use Rattle.twkb_body.specs.Growing.{Change, Nothing, applied, own_of, NewRow, count_change, stage_change, kind_with}
 use Rattle.twkb_body.specs.Growing.{id_in}
-use Rattle.twkb_body.specs.JudgedParts.{IsPastEnds, Passes, IsJudged, PartIn}
-use Rattle.twkb_body.specs.Ids.{ids_read}
-use Rattle.twkb_body.specs.Noting.{NotedOutline, notes_in}
-use Rattle.twkb_body.specs.Header.{HeaderInFront}
-use Rattle.twkb_body.specs.OptionalParts.{PartsInFront, sized_head}
+use Rattle.twkb_body.specs.HeaderParts.{IsPastEnds, Passes, IsJudged, PartIn, PartsInFront, sized_head}
 use Rattle.twkb_body.specs.declared.header.FrontHeader.{FrontHeader}
 use Rattle.twkb_body.proofs.Outlined.{noted_item}
 use Rattle.twkb_body.proofs.PointRuns.{outlined_judged}
@@ -47,17 +44,21 @@ use Rattle.twkb_engine.specs.State.{stage_at, outline_in, size_roles, ids_in, su
 use Rattle.twkb_engine.specs.Collections.{frames_of}
 use Rattle.twkb_engine.specs.Fits.{item_fits, lists_fit, are_shut, is_typed, header_item, IsHeaderItem, IsInside}
 use Rattle.twkb_engine.specs.Fits.{has_members}
-use Rattle.twkb_engine.specs.Notes.{NotesGo, open_in, AreOpen, notes_past}
+use Rattle.twkb_engine.specs.Taking.{NotesGo, open_in, AreOpen, notes_past, Lands, own_row, past_end, past_value}
+use Rattle.twkb_engine.specs.Taking.{IsFree, counted_row, count_role}
 use Rattle.twkb_engine.specs.declared.next_item.NextItem.{NextItem}
 use Rattle.twkb_engine.specs.declared.engine.Engine.{Engine}
 use Rattle.twkb_engine.specs.declared.next_item.NextItem.TheVariants as next
-use Rattle.twkb_engine.specs.Taking.{Lands, own_row, past_end, past_value, IsFree, counted_row, count_role}
 use Rattle.twkb_engine.specs.Stops.{Stop}
 use Rattle.twkb_engine.specs.declared.open_collections.OpenCollection.{OpenCollection}
 use Rattle.twkb_engine.specs.Standing.{ComesNext, StandsAt, LeadsOn, held_in, notes_at}
-use Rattle.twkb_engine.proofs.Collections.{frames_length}
-use Rattle.twkb_engine.proofs.Items.{Leads, leads_as, number_leads, past_with, way_at}
+use Rattle.twkb_engine.proofs.Items.{frames_length, Leads, leads_as, number_leads, past_with, way_at}
 use Rattle.twkb_engine.proofs.Steps.{open_noted, all_whole, noted_at, stands_whole}
+use Rattle.twkb_engine.specs.declared.blob_reason.BlobReason.{BlobReason}
+use Rattle.twkb_engine.specs.declared.blob_reason.BlobReason.TheVariants as blob
+use Rattle.twkb_engine.specs.Texts.{blob_words}
+
+-- ==== The parts of a header, and the members and ends of geometries.
 
 -- ==== The parts of a header, and what comes after it.
 
@@ -628,3 +629,10 @@ module _ (d : Engine) (rs : List Row) (rest : List ℕ) (h : FrontHeader)
               (next_told _ (first _ (open_noted d.limits s.front (sums_of d) (outline_in d) rs
               s.outlined d.start) held)),
         )
+
+-- ==== The text of a reason is short.
+
+-- what is wrong with an item of a blob
+pub short_blob : (reason : BlobReason) → length (blob_words reason) ≤ 31
+short_blob blob.Truncated = omega arith
+short_blob reason = omega arith

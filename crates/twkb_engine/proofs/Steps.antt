@@ -1,59 +1,122 @@
--- The step of an engine at its next item, and a blob that is a single point.
-use Rattle.std.proofs.Common.{◌≡◌, ◌⊎◌, inl, inr, ℕ, zero, suc, ◌+◌, ◌-◌, ◌<◌, List, [], ◌∷◌, ◌++◌, length, refl, sym}
+-- The step of an engine at its next item, field by field, and a blob that is a single point.
+use Rattle.std.proofs.Common.{◌≡◌, ℕ, ◌+◌, List, ◌⊎◌, inl, inr, zero, suc, ◌-◌, ◌<◌, [], ◌∷◌, ◌++◌, length, refl, sym}
 use Rattle.std.proofs.Common.{ap, ◌∙◌, subst, append-nil, arith, true, false, Bool, Result, Some, None, Ok, Err, IfOk}
 use Rattle.std.proofs.Common.{ℤ, ◌≤◌, ◌/◌, ◌%◌, take, get_or, Option, IfSome}
+use Rattle.twkb_points.specs.Point.{Point}
+use Rattle.twkb_tree.specs.Limits.{Allowance, IsAllowance}
+use Rattle.twkb_grammar.specs.Machine.{Sums, Head as MachineHead, Frame, Phase, AtBody, Finished, Want, nothing}
+use Rattle.twkb_grammar.specs.Machine.{added, kind_number, first_count, listed, Runs, started, sums_after}
+use Rattle.twkb_body.specs.declared.head.Head.{Head}
+use Rattle.twkb_body.specs.declared.member_ids.MemberIds.{MemberIds}
+use Rattle.twkb_engine.specs.State.{sums_of, IsNext, IsPlaced, outline_in, stage_at}
+use Rattle.twkb_engine.specs.Standing.{held_in, MovesOn, StandsAt, notes_at, StopsIn, MadeIn, IsFed}
+use Rattle.twkb_engine.specs.Taking.{Stays, BeginsAt, NotesGo, notes_with, open_in, point_span}
+use Rattle.twkb_engine.specs.declared.open_collections.OpenCollection.{OpenCollection}
+use Rattle.twkb_engine.specs.declared.next_item.NextItem.{NextItem}
+use Rattle.twkb_engine.specs.declared.engine.Engine.{Engine}
 use Rattle.std.proofs.Math.Nat.{add-zero}
 use Rattle.std.specs.Prelude.{not}
 use Rattle.std.proofs.lemmas.List.{get_or-take, length-take-le, nil_from_length}
 use Rattle.twkb_num.specs.Varint.{IsVarint}
-use Rattle.twkb_num.specs.Zigzag.{unzigzag_of}
-use Rattle.twkb_points.specs.Point.{Point}
+use Rattle.twkb_num.specs.Spelling.{unzigzag_of}
 use Rattle.twkb_tree.specs.Tree.{Tree, point, simple, point_list}
-use Rattle.twkb_tree.specs.Limits.{Allowance, IsAllowance}
 use Rattle.twkb_tree.specs.Rows.{Row, rows, whole_row}
 use Rattle.twkb_tree.specs.declared.kind.Kind.TheVariants as kind
 use Rattle.twkb_grammar.specs.Roles.{Role, Item, IsNumber, join}
 use Rattle.twkb_grammar.specs.Roles as role
-use Rattle.twkb_grammar.specs.Blob.{Blob}
+use Rattle.twkb_grammar.specs.Items.{Blob}
 use Rattle.twkb_grammar.specs.Fault.{Reason, SizeMismatch, points_by}
-use Rattle.twkb_grammar.specs.PlainReader.{is_exact, unless}
-use Rattle.twkb_grammar.specs.Machine.{Head, Frame, Phase, AtBody, Finished, Want, Sums, nothing, added}
-use Rattle.twkb_grammar.specs.Machine.{kind_number, first_count, listed, Runs, started, sums_after}
-use Rattle.twkb_grammar.specs.Reading.{Ran, Reached, Gives}
+use Rattle.twkb_grammar.specs.Reading.{is_exact, unless, Ran, Reached, Gives}
 use Rattle.twkb_grammar.specs.Noting.{Notes, no_notes, noted, note_end, note_ends, note_ends_to, IsQuiet}
-use Rattle.twkb_grammar.specs.Spans.{spans_of_blob}
-use Rattle.twkb_grammar.proofs.NotedSpans.{ends_swap}
+use Rattle.twkb_grammar.specs.Noting.{spans_of_blob}
+use Rattle.twkb_grammar.proofs.NotedSpans.{ends_swap, blob_noted, quiet, all_open, ends_to}
 use Rattle.twkb_grammar.proofs.Streams.{no_items}
 use Rattle.twkb_grammar.proofs.BodiesBack.{some_role}
 use Rattle.twkb_grammar.proofs.OneFault.{NoEnd, IsByteRole, byte_gives, number_gives, byte_no_end, number_no_end}
 use Rattle.twkb_grammar.proofs.OneFault.{blob_is_part, no_fault}
-use Rattle.twkb_grammar.proofs.NotedSpans.{blob_noted, quiet, all_open, ends_to}
-use Rattle.twkb_grammar.proofs.Frames.{reached_frames}
+use Rattle.twkb_grammar.proofs.Parts.{reached_frames}
 use Rattle.twkb_grammar.proofs.Running.{ran_blob}
 use Rattle.twkb_grammar.proofs.TreesBack.{runs_are_items}
 use Rattle.twkb_body.specs.Outline.{Outline, FrameOutline, frame_outline, Stage, OnEnd, OnFinished, stage_of}
 use Rattle.twkb_body.specs.Outline.{stage_role, outline_ended, outline_past_end, outline_ends, OnHeader, outline_of}
-use Rattle.twkb_body.specs.Reading.{Outlined, open_count, OutlineLanded}
+use Rattle.twkb_body.specs.Reading.{Outlined, open_count, OutlineLanded, NotedOutline, notes_in}
 use Rattle.twkb_body.specs.Growing.{rows_so_far, id_in}
-use Rattle.twkb_body.specs.Noting.{NotedOutline, notes_in}
-use Rattle.twkb_body.specs.Head.{kind_of, many_of, IsHeadAt}
-use Rattle.twkb_body.specs.JudgedParts.{PartIn, IsJudged}
-use Rattle.twkb_body.specs.Whole.{WholePoint, metadata_with, header_bytes}
+use Rattle.twkb_body.specs.Header.{kind_of, many_of, IsHeadAt}
+use Rattle.twkb_body.specs.HeaderParts.{PartIn, IsJudged}
+use Rattle.twkb_body.specs.Front.{WholePoint, metadata_with, header_bytes}
 use Rattle.twkb_body.proofs.Outlined.{outlined_start, noted_item, outlined_ends, outlined_whole, outlined_bytes}
-use Rattle.twkb_body.proofs.Notings.{same_count}
+use Rattle.twkb_body.proofs.Outlines.{same_count}
 use Rattle.twkb_body.proofs.HeaderParts.{HeaderRead, sums_behind, bare_header_read, sized_header_read}
 use Rattle.twkb_body.proofs.HeaderParts.{header_point_read}
 use Rattle.twkb_engine.specs.Collections.{frames_of}
 use Rattle.twkb_engine.specs.Fits.{IsByte}
-use Rattle.twkb_engine.specs.State.{IsNext, IsPlaced, sums_of, outline_in, stage_at}
-use Rattle.twkb_engine.specs.Taking.{BeginsAt}
-use Rattle.twkb_engine.specs.Notes.{NotesGo, notes_with, open_in, point_span}
-use Rattle.twkb_engine.specs.Standing.{StandsAt, notes_at, held_in, StopsIn, MadeIn, IsFed}
-use Rattle.twkb_engine.specs.declared.next_item.NextItem.{NextItem}
-use Rattle.twkb_engine.specs.declared.engine.Engine.{Engine}
 use Rattle.twkb_engine.specs.Stops.{Stop}
 use Rattle.twkb_engine.specs.declared.next_item.NextItem.TheVariants as next
-use Rattle.twkb_engine.proofs.Fields.{Fields, SameItem}
+
+-- ==== The fields of an engine as one value, by which two engines are compared.
+
+-- the fields, with the sums of the items as one
+pub record Fields : Type 0 where
+  pub limits : Allowance
+  pub start : ℕ
+  pub sums : Sums
+  pub collections : List OpenCollection
+  pub head : Head
+  pub ids : MemberIds
+  pub members_left : ℕ
+  pub rings_left : ℕ
+  pub points_left : ℕ
+  pub next : NextItem
+  pub held : List ℕ
+
+abbrev pub fields_of : Engine → Fields
+fields_of d = record {
+  limits = d.limits;
+  start = d.start;
+  sums = sums_of d;
+  collections = d.collections;
+  head = d.head;
+  ids = d.ids;
+  members_left = d.members_left;
+  rings_left = d.rings_left;
+  points_left = d.points_left;
+  next = d.next;
+  held = d.held;
+}
+
+-- so many bytes further, at this point, with these ids, members and points left
+abbrev pub moved_to : Engine → (used : ℕ) → Point → MemberIds → (members points : ℕ) → Fields
+moved_to d used to ids members points =
+    let s : Sums = record { bytes = d.bytes + used; position = to; nodes = d.nodes; points = d.points } in
+    record (fields_of d) { sums = s; ids = ids; members_left = members; points_left = points }
+
+-- an engine that moved on so
+pub moved_fields : {d m : Engine} {used : ℕ} → Stays d m → MovesOn d used m
+    → fields_of m ≡ moved_to d used m.position d.ids d.members_left m.points_left
+moved_fields {m = m} same moves = λ i. record {
+  limits = same.limits i;
+  start = same.start i;
+  sums = record {
+    bytes = moves.bytes i;
+    position = m.position;
+    nodes = moves.nodes i;
+    points = moves.points i;
+  };
+  collections = moves.collections i;
+  head = moves.head i;
+  ids = moves.ids i;
+  members_left = moves.members_left i;
+  rings_left = moves.rings_left i;
+  points_left = m.points_left;
+  next = moves.next i;
+  held = same.held i;
+}
+
+-- two engines that differ in the bytes of a number alone
+abbrev pub SameItem : Engine → Engine → Type 0
+SameItem d e = fields_of e ≡ record (fields_of d) { held = held_in e }
+
+-- ==== The step of an engine at its next item, and a blob that is a single point.
 
 -- ==== An item that comes next: its role, what it notes, and the stage after it and the ends that follow.
 
@@ -132,7 +195,7 @@ open_noted limits bytes e o rs r start = all_open start r.reached.items nothing 
 
 module _ (limits : Allowance) (bytes : List ℕ) (e : Sums) (rs : List Row) where
   -- one geometry ends
-  noted_end : (gs : List FrameOutline) (h : Head) (told : ℕ → Notes)
+  noted_end : (gs : List FrameOutline) (h : MachineHead) (told : ℕ → Notes)
       → is_exact h.size (e.bytes - h.from) ≡ true → NotedOutline limits bytes e
       (gs, OnEnd h) rs told
       → NotedOutline limits bytes e (outline_ended gs) rs (λ start. note_end (start + e.bytes) e.points (told start))
@@ -171,7 +234,7 @@ module _ (limits : Allowance) (bytes : List ℕ) (e : Sums) (rs : List Row) wher
       (0, subst (λ q. NotedOutline limits bytes e q rs told) (ok_same o p at) n)
 
   -- it ends, and the collections of which it is the last member
-  noted_past : (gs : List FrameOutline) (h : Head) (told : ℕ → Notes) (p : Outline) (b : Bool)
+  noted_past : (gs : List FrameOutline) (h : MachineHead) (told : ℕ → Notes) (p : Outline) (b : Bool)
       → is_exact h.size (e.bytes - h.from) ≡ b → outline_past_end b e.bytes gs ≡ Ok p
       → NotedOutline limits bytes e (gs, OnEnd h) rs told → Past p told
   noted_past gs h told p false x at n = absurd cc
@@ -340,7 +403,7 @@ abbrev root_rows : List ℕ → Point → List Row
 root_rows bytes to = whole_row 0 kind.Point None (first_precision bytes) (to ∷ []) ∷ []
 
 -- what is read of its header
-abbrev known_by : (first : ℕ) → Option ℕ → Head
+abbrev known_by : (first : ℕ) → Option ℕ → MachineHead
 known_by first size = record {
   precision = unzigzag_of (first / 16);
   meta = metadata_with size;

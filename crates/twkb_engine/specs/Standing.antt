@@ -6,16 +6,14 @@ use Rattle.twkb_tree.specs.Limits.{Allowance}
 use Rattle.twkb_tree.specs.Rows.{Row, rows}
 use Rattle.twkb_grammar.specs.Roles.{Role}
 use Rattle.twkb_grammar.specs.Reading.{Gives}
-use Rattle.twkb_grammar.specs.Blob.{Blob}
+use Rattle.twkb_grammar.specs.Items.{Blob}
 use Rattle.twkb_grammar.specs.Fault.{FirstFault, Reason, Truncated, IsCut, IsTooLong}
-use Rattle.twkb_grammar.specs.Noting.{Notes}
-use Rattle.twkb_grammar.specs.Spans.{spans_of_blob}
-use Rattle.twkb_body.specs.Reading.{Outlined}
-use Rattle.twkb_body.specs.Noting.{notes_in}
+use Rattle.twkb_grammar.specs.Noting.{Notes, spans_of_blob}
+use Rattle.twkb_body.specs.Reading.{Outlined, notes_in}
 use Rattle.twkb_engine.specs.State.{IsPlaced, IsNext, allowance_of, sums_of, outline_in}
 use Rattle.twkb_engine.specs.Fits.{IsByte}
 use Rattle.twkb_engine.specs.Caps.{place_cap}
-use Rattle.twkb_body.specs.JudgedParts.{PartIn}
+use Rattle.twkb_body.specs.HeaderParts.{PartIn}
 use Rattle.twkb_body.specs.declared.numbers.FrontNumber.{FrontNumber}
 use Rattle.twkb_body.specs.declared.numbers.FrontNumber.TheVariants.{Complete, Cut, TooLong}
 use Rattle.twkb_body.specs.Running.{ListRuns, ListStops}

@@ -7,10 +7,9 @@ use Rattle.twkb_grammar.specs.Roles as role
 use Rattle.twkb_grammar.specs.Roles.{Role, where_set}
 use Rattle.twkb_grammar.specs.Machine.{Sums}
 use Rattle.twkb_body.specs.Outline.{Outline, Stage, OnHeader, OnMetadata, OnOption, OnCount, OnId, OnBody, Wanted}
-use Rattle.twkb_body.specs.Outline.{WantedY, BodyPlace, outline_role}
+use Rattle.twkb_body.specs.Outline.{WantedY, BodyPlace, outline_role, ids_of, ids_read}
 use Rattle.twkb_body.specs.Growing.{id_in}
-use Rattle.twkb_body.specs.Head.{head_of, kind_of, form_of, many_of, IsHeadAt}
-use Rattle.twkb_body.specs.Ids.{ids_of, ids_read}
+use Rattle.twkb_body.specs.Header.{head_of, kind_of, form_of, many_of, IsHeadAt}
 use Rattle.twkb_engine.specs.Collections.{frames_of}
 use Rattle.twkb_engine.specs.Fits.{lists_of, line_lists_of, area_lists_of, has_members}
 use Rattle.twkb_engine.specs.declared.next_item.NextItem.{NextItem}

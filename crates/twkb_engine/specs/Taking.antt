@@ -1,17 +1,17 @@
--- What an engine makes of the next item.
+-- What an engine makes of the next item, and what it notes of spans.
 use Rattle.std.specs.Prelude.{◌≡◌, ◌+◌, ◌⊎◌, ℕ, List, [], Bool, true, false, Some, None, Result, Ok, Err, length}
-use Rattle.std.specs.Prelude.{if◌then◌else◌}
+use Rattle.std.specs.Prelude.{if◌then◌else◌, ◌/◌, get_or}
 use Rattle.twkb_points.specs.Point.{Point, origin}
 use Rattle.twkb_tree.specs.Rows.{Row, first_id}
 use Rattle.twkb_grammar.specs.Bits.{bit}
 use Rattle.twkb_grammar.specs.Roles.{Role, Count}
 use Rattle.twkb_grammar.specs.Fault.{Reason, moved, nodes_by, points_by}
 use Rattle.twkb_grammar.specs.Machine.{Sums, first_count}
-use Rattle.twkb_grammar.specs.PlainReader.{objection}
+use Rattle.twkb_grammar.specs.Reading.{objection}
 use Rattle.twkb_body.specs.Outline.{Outline, OnFinished, Stage, OnEnd, options, shut, outline_advanced, outline_ends}
 use Rattle.twkb_body.specs.Growing.{Change, NewRow, Nothing, change_of, applied, own_of, header_change, point_change}
-use Rattle.twkb_body.specs.JudgedParts.{Passes}
-use Rattle.twkb_body.specs.Head.{head_of, kind_of, form_of, many_of}
+use Rattle.twkb_body.specs.HeaderParts.{Passes}
+use Rattle.twkb_body.specs.Header.{head_of, kind_of, form_of, many_of}
 use Rattle.twkb_engine.specs.State.{sums_of, outline_in, ids_in}
 use Rattle.twkb_engine.specs.Collections.{frames_of}
 use Rattle.twkb_engine.specs.Fits.{lists_of}
@@ -21,6 +21,13 @@ use Rattle.twkb_engine.specs.declared.engine.Engine.{Engine}
 use Rattle.twkb_engine.specs.declared.end.Inexact.{Inexact}
 use Rattle.twkb_engine.specs.declared.blob_reason.BlobReason.TheVariants.{SizeMismatch}
 use Rattle.twkb_flat.specs.declared.stop.Stop.TheVariants.{Memory, Refused}
+use Rattle.twkb_num.specs.Spelling.{unzigzag_of}
+use Rattle.twkb_tree.specs.declared.kind.Kind.TheVariants as kinds
+use Rattle.twkb_grammar.specs.Noting.{Notes, noted_by, note_ends_to}
+use Rattle.twkb_grammar.specs.declared.span.Span.{Span}
+use Rattle.twkb_body.specs.Reading.{open_count}
+
+-- ==== What an engine makes of the next item.
 
 -- the sums after an item of this role, number and width
 abbrev pub sums_with : Sums → Role → (n width : ℕ) → Sums
@@ -160,3 +167,40 @@ header_row d parts = header_change d.head.depth d.head.id (kind_of d.head.kind) 
 -- what this point brings
 abbrev pub point_row : Point → Engine → Change
 point_row p d = point_change p d.head.depth d.head.id d.head.precision (form_of d.head.kind) (first_id (ids_in d))
+
+-- ==== What an engine has noted of spans.
+
+-- the geometries that are begun and not finished
+abbrev pub open_in : Engine → ℕ
+open_in d = open_count (outline_in d)
+
+-- as many spans are open as geometries
+abbrev pub AreOpen : Engine → Notes → Type 0
+AreOpen d w = length w.begun ≡ open_in d
+
+-- what an item of this role, number and width notes, and the ends after it: all, if the blob ends,
+-- else those of the geometries that are open no more
+abbrev pub notes_with : Role → (n width : ℕ) → (d e : Engine) → (ends : Bool) → Notes → Notes
+notes_with r n width d e ends w = note_ends_to (if ends then 0 else open_in e)
+    (d.start + (d.bytes + width)) (d.points + points_by r n) (noted_by d.start (sums_of d) r n w)
+
+-- what the ends note that come after what an engine took: all, if the blob ends, else those of the
+-- geometries that are open no more
+abbrev pub notes_past : (d e : Engine) → (ends : Bool) → Notes → Notes
+notes_past d e ends = note_ends_to (if ends then 0 else open_in e) (d.start + d.bytes) d.points
+
+-- the notes that are held go on so
+abbrev pub NotesGo : {S : Type 0} → (S → Notes → Type 0) → (Notes → Notes) → Engine → (old new : S) → Type 0
+NotesGo holds told d old new = (w : Notes) → AreOpen d w → holds old w → holds new (told w)
+
+-- the span of a point whose blob has these bytes and begins at this offset
+abbrev pub point_span : (start : ℕ) (bytes : List ℕ) → Span
+point_span start bytes = record {
+  level = 0;
+  offset = start;
+  kind = kinds.Point;
+  precision = unzigzag_of (get_or bytes 0 0 / 16);
+  metadata = get_or bytes 1 0;
+  length = length bytes;
+  points = 1;
+}

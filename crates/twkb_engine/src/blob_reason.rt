@@ -30,7 +30,7 @@ pub enum BlobReason {
 
 impl BlobReason {
     /// The reason in a few English words, at most 31 bytes. Takes no memory.
-    #[tactic(auto, using(crate::proofs::ShortTexts::short_blob))]
+    #[tactic(auto, using(crate::proofs::Parts::short_blob))]
     pub fn text(self) -> &'static str
         ensures words { result.now ≡ blob_words self }
         ensures short { length (blob_words self) ≤ 31 }

@@ -6,11 +6,10 @@ ghost use Rattle.std.specs.Prelude.{IfNone};
 ghost use Rattle.twkb_tree.specs.Rows.{Row as TableRow};
 ghost use Rattle.twkb_grammar.specs.Roles as role;
 ghost use Rattle.twkb_grammar.specs.Fault.{CoordinateRange, moved};
-ghost use Rattle.twkb_grammar.specs.PlainReader.{objection};
+ghost use Rattle.twkb_grammar.specs.Reading.{objection};
 ghost use Rattle.twkb_grammar.specs.Machine.{listed};
 ghost use Rattle.twkb_flat.specs.Rows.{row_with};
-ghost use Rattle.twkb_body.specs.Growing.{NewRow, Nothing};
-ghost use Rattle.twkb_body.specs.Admitting.{Admits};
+ghost use Rattle.twkb_body.specs.Growing.{NewRow, Nothing, Admits};
 ghost use Rattle.twkb_engine.specs.declared.next_item.NextItem.TheVariants as next;
 
 use crate::blob_reason::BlobReason;
@@ -29,8 +28,7 @@ impl Engine {
     ghost use Rattle.twkb_engine.specs.Caps.{place_cap};
     ghost use Rattle.twkb_engine.specs.Fits.{are_shut, IsInside, IsBodyItem};
     ghost use Rattle.twkb_engine.specs.Taking.{Takes, Lands, IsFree, SameBlob, Keeps, past_end, past_last, point_row};
-    ghost use Rattle.twkb_engine.specs.Taking.{judged_as};
-    ghost use Rattle.twkb_engine.specs.Notes.{NotesGo, notes_with, notes_past, open_in};
+    ghost use Rattle.twkb_engine.specs.Taking.{judged_as, NotesGo, notes_with, notes_past, open_in};
     ghost use Rattle.twkb_engine.specs.Standing.{ComesNext};
 
     // Takes an x: moves the position by the step that the number spells in zigzag form; the y comes

@@ -1,9 +1,8 @@
 //! The end of a geometry.
 ghost use Rattle.std.specs.Prelude.{◌≡◌, ◌-◌, true, IfOk, OnOk, List};
-ghost use Rattle.twkb_grammar.specs.PlainReader.{is_exact as exact};
-ghost use Rattle.twkb_body.specs.Growing.{Nothing};
-ghost use Rattle.twkb_body.specs.Admitting.{Admits};
-ghost use Rattle.twkb_body.specs.JudgedParts.{Passes};
+ghost use Rattle.twkb_grammar.specs.Reading.{is_exact as exact};
+ghost use Rattle.twkb_body.specs.Growing.{Nothing, Admits};
+ghost use Rattle.twkb_body.specs.HeaderParts.{Passes};
 ghost use Rattle.twkb_tree.specs.Rows.{Row};
 
 use crate::blob_reason::BlobReason;
@@ -46,8 +45,7 @@ impl From<Inexact> for Stop {
 impl Engine {
     ghost use Rattle.twkb_engine.specs.State.{IsPlaced};
     ghost use Rattle.twkb_engine.specs.Fits.{are_shut, IsInside, IsHeaderItem};
-    ghost use Rattle.twkb_engine.specs.Taking.{Lands, Keeps, past_end, own_row, judged_as};
-    ghost use Rattle.twkb_engine.specs.Notes.{NotesGo, notes_past};
+    ghost use Rattle.twkb_engine.specs.Taking.{Lands, Keeps, past_end, own_row, judged_as, NotesGo, notes_past};
 
     // Ends the geometry that is read, of which nothing may be left, and each collection whose last
     // member ends with it, the innermost first, and notes the ends of their spans. Returns true if

@@ -54,8 +54,7 @@ pub struct Engine {
 impl Engine {
     ghost use Rattle.twkb_engine.specs.State.{IsPlaced, IsNext, allowance_of};
     ghost use Rattle.twkb_engine.specs.Fits.{IsByte, are_shut};
-    ghost use Rattle.twkb_engine.specs.Taking.{Takes, BeginsAt, Keeps};
-    ghost use Rattle.twkb_engine.specs.Notes.{NotesGo, notes_with, open_in};
+    ghost use Rattle.twkb_engine.specs.Taking.{Takes, BeginsAt, Keeps, NotesGo, notes_with, open_in};
     ghost use Rattle.twkb_engine.specs.Standing.{StandsAt, IsAlive, IsEnd, count_of, held_in, offset_in, place_in};
 
     /// Makes an engine that has read nothing, for the blobs of a stream from this offset on, which

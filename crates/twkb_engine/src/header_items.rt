@@ -7,12 +7,12 @@ ghost use Rattle.twkb_tree.specs.Rows.{Row};
 ghost use Rattle.twkb_grammar.specs.Roles as role;
 ghost use Rattle.twkb_grammar.specs.Fault.{announces_point as announces};
 ghost use Rattle.twkb_grammar.specs.Machine.{kind_number, kind_at};
-ghost use Rattle.twkb_num.specs.Zigzag.{unzigzag_of};
+ghost use Rattle.twkb_num.specs.Spelling.{unzigzag_of};
 ghost use Rattle.twkb_points.specs.Point.{origin as origin_of};
 ghost use Rattle.twkb_grammar.specs.Noting.{Notes, note_header, note_metadata};
 ghost use Rattle.twkb_body.specs.Outline.{OnMetadata, begins};
-ghost use Rattle.twkb_body.specs.Admitting.{Admits};
-ghost use Rattle.twkb_body.specs.Head.{head_of, kind_of};
+ghost use Rattle.twkb_body.specs.Growing.{Admits};
+ghost use Rattle.twkb_body.specs.Header.{head_of, kind_of};
 ghost use Rattle.twkb_engine.specs.declared.next_item.NextItem.TheVariants as next;
 
 use crate::blob_reason::BlobReason;
@@ -35,7 +35,7 @@ impl Engine {
     ghost use Rattle.twkb_engine.specs.Caps.{place_cap};
     ghost use Rattle.twkb_engine.specs.Fits.{IsHeaderItem, are_shut, is_typed};
     ghost use Rattle.twkb_engine.specs.Taking.{Takes, Lands, SameBlob, SameBut, Keeps, past_parts, header_row};
-    ghost use Rattle.twkb_engine.specs.Notes.{NotesGo, notes_with, notes_past};
+    ghost use Rattle.twkb_engine.specs.Taking.{NotesGo, notes_with, notes_past};
     ghost use Rattle.twkb_engine.specs.Standing.{IsAlive, ComesNext};
 
     // Begins a geometry at its type byte, which must come next: keeps kind and precision, puts the

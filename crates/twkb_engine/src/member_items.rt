@@ -3,17 +3,15 @@
 //! comes next, and end at an offset of the stream of at most 2^63. After an `Err` the engine can
 //! take nothing more.
 ghost use Rattle.std.specs.Prelude.{◌≡◌, ◌+◌, ◌<◌, ◌++◌, ◌∷◌, [], nat_lt, suc, length, false, None, IfOk, OnOk};
-ghost use Rattle.twkb_num.specs.Zigzag.{unzigzag_of};
+ghost use Rattle.twkb_num.specs.Spelling.{unzigzag_of};
 ghost use Rattle.twkb_grammar.specs.Bits.{bit};
 ghost use Rattle.twkb_grammar.specs.Roles as role;
 ghost use Rattle.twkb_grammar.specs.Fault as fault;
 ghost use Rattle.twkb_grammar.specs.Fault.{points_by};
-ghost use Rattle.twkb_grammar.specs.PlainReader.{unless, objection};
-ghost use Rattle.twkb_body.specs.Outline.{members_open, many_counted};
-ghost use Rattle.twkb_body.specs.Growing.{applied};
-ghost use Rattle.twkb_body.specs.Admitting.{Admits};
-ghost use Rattle.twkb_body.specs.Head.{head_of, many_of};
-ghost use Rattle.twkb_body.specs.Ids.{ids_of, ids_read};
+ghost use Rattle.twkb_grammar.specs.Reading.{unless, objection};
+ghost use Rattle.twkb_body.specs.Outline.{members_open, many_counted, ids_of, ids_read};
+ghost use Rattle.twkb_body.specs.Growing.{applied, Admits};
+ghost use Rattle.twkb_body.specs.Header.{head_of, many_of};
 ghost use Rattle.twkb_engine.specs.Stops.{objection_of};
 ghost use Rattle.twkb_engine.specs.declared.next_item.NextItem.TheVariants as next;
 
@@ -44,8 +42,8 @@ impl Engine {
     ghost use Rattle.twkb_engine.specs.State.{IsPlaced, outline_in, sums_of};
     ghost use Rattle.twkb_engine.specs.Collections.{frames_of};
     ghost use Rattle.twkb_engine.specs.Caps.{depth_cap};
-    ghost use Rattle.twkb_engine.specs.Taking.{Takes, SameBlob, Keeps, own_row, counted_row, count_role};
-    ghost use Rattle.twkb_engine.specs.Notes.{NotesGo, notes_with, open_in};
+    ghost use Rattle.twkb_engine.specs.Taking.{Takes, SameBlob, Keeps, own_row, counted_row, count_role, NotesGo};
+    ghost use Rattle.twkb_engine.specs.Taking.{notes_with, open_in};
     ghost use Rattle.twkb_engine.specs.Standing.{ComesNext};
 
     // Why the limits leave no room for `nodes` more rows, or else for `points` more points; `None`

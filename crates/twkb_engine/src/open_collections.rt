@@ -1,10 +1,9 @@
 //! The collections that are open.
 ghost use Rattle.std.specs.Prelude.{◌≡◌, ◌≤◌, ◌+◌, ◌-◌, ◌++◌, ◌∷◌, [], ℕ, List, length, take, true, Ok, OnOk, OnErr};
-ghost use Rattle.twkb_grammar.specs.PlainReader.{is_exact as exact};
+ghost use Rattle.twkb_grammar.specs.Reading.{is_exact as exact};
 ghost use Rattle.twkb_body.specs.Outline.{OnHeader, outline_past_end};
 ghost use Rattle.twkb_body.specs.Growing.{id_in};
-ghost use Rattle.twkb_engine.specs.Collections.{frames_of};
-ghost use Rattle.twkb_engine.specs.Ends.{IfBlob, IfNext, IfCollection};
+ghost use Rattle.twkb_engine.specs.Collections.{frames_of, IfBlob, IfNext, IfCollection};
 ghost use Rattle.twkb_engine.specs.declared.open_collections.OpenCollection.{OpenCollection};
 
 use smallvec::SmallVec;

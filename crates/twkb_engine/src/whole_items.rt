@@ -3,9 +3,9 @@
 ghost use Rattle.std.specs.Prelude.{◌≡◌, ◌+◌, ◌-◌, ◌<◌, ◌≤◌, [], true, List, Ok, length, take};
 ghost use Rattle.std.specs.Prelude.{IfOk, IfSome, OnErr};
 ghost use Rattle.twkb_tree.specs.Rows.{Row};
-ghost use Rattle.twkb_grammar.specs.PlainReader.{is_exact};
-ghost use Rattle.twkb_body.specs.Whole.{WholePoint};
-ghost use Rattle.twkb_engine.specs.Notes.{point_span};
+ghost use Rattle.twkb_grammar.specs.Reading.{is_exact};
+ghost use Rattle.twkb_body.specs.Front.{WholePoint};
+ghost use Rattle.twkb_engine.specs.Taking.{point_span};
 ghost use Rattle.twkb_engine.specs.declared.next_item.NextItem.TheVariants as next;
 
 use crate::engine::Engine;

@@ -1,29 +1,35 @@
--- The row at a place and the open rows of a form, by its kept nodes.
+-- The row at a place, the open rows of a form, and a row that continues its geometry.
 use mathlib.Core.List.{reverse_aux}
 use Rattle.std.proofs.Common.{◌≡◌, ℕ, ◌+◌, ◌-◌, ◌<◌, ◌≤◌, List, [], ◌∷◌, ◌++◌, map, length, take, drop, get_or, refl}
 use Rattle.std.proofs.Common.{sym, ap, ◌∙◌, subst, arith, eq-eqb, zero, suc, Bool, Option, Some, None}
 use Rattle.std.specs.Prelude.{IsTrue, ◌↔◌, ◌==◌, slice_get, reverse, is_some}
 use Rattle.std.proofs.lemmas.List.{length-map, length-append, length-drop, get_or-drop, get_or-map, take-append-drop}
-use Rattle.std.proofs.lemmas.List.{take_at, drop_at}
+use Rattle.std.proofs.lemmas.List.{take_at, drop_at, length-reverse}
 use Rattle.std.proofs.lemmas.Option.{slice_get_read, slice_get_past}
 use Rattle.std.proofs.lemmas.Bool.{eqb-true}
 use Rattle.std.proofs.lemmas.Grind.{flat_map-append}
 use Rattle.twkb_points.specs.Point.{Point}
-use Rattle.twkb_tree.specs.Rows.{Row as TableRow, row_points}
+use Rattle.twkb_tree.specs.Rows.{Row as TableRow, row_points, AreValidRowsOfOne}
 use Rattle.twkb_tree.specs.Limits.{largest_limits}
-use Rattle.twkb_tree.specs.RowLists.{AreValidRowsOfOne}
 use Rattle.twkb_tree.specs.Open.{ids_by, open_count, IsOpenAt}
 use Rattle.twkb_flat.specs.declared.node.Row.{Row}
 use Rattle.twkb_flat.specs.declared.kept_nodes.PlacedRow.{PlacedRow}
 use Rattle.twkb_flat.specs.declared.kept_nodes.KeptNode.{KeptNode}
-use Rattle.twkb_flat.specs.Rows.{row_with, row_depth_cap, depth_of, depths}
+use Rattle.twkb_flat.specs.Rows.{row_with, row_depth_cap, depth_of, depths, levels, OpenPlace, MayFollow}
 use Rattle.twkb_flat.specs.KeptNodes.{listed, Laid, placed_of, IsFlat, depths_in}
 use Rattle.twkb_flat.specs.Taking.{IsAt}
-use Rattle.twkb_flat.specs.Links.{levels, OpenPlace}
-use Rattle.twkb_flat.proofs.FillLemmas.{no_deeper}
-use Rattle.twkb_flat.proofs.RowLemmas.{Here, row_at, flat_points, length-listed, depths-listed}
-use Rattle.twkb_flat.proofs.LinkLemmas.{last_depth}
-use Rattle.twkb_flat.proofs.OpenPlaceLemmas.{open_there}
+use Rattle.twkb_flat.proofs.BuildLemmas.{no_deeper}
+use Rattle.twkb_flat.proofs.LinkLemmas.{Here, row_at, flat_points, length-listed, depths-listed, last_depth}
+use Rattle.twkb_flat.proofs.LastPoint.{open_there}
+use Rattle.twkb_tree.specs.declared.limits.TheConstants.{NODES_CAP, POINTS_CAP}
+use Rattle.twkb_tree.specs.Admits.{steps_to, parent, first_child, fits, Continues, IsOneRoot, geometry_rows}
+use Rattle.twkb_tree.specs.Admits.{point_count}
+use Rattle.twkb_tree.proofs.OpenLaws.{steps_within, point_count-reverse}
+use Rattle.twkb_tree.proofs.LimitLaws.{continued, of_one, one_geometry_rows}
+use Rattle.twkb_tree.proofs.RowLaws.{length-row_points}
+use Rattle.twkb_tree.proofs.RowForest.{both_true}
+
+-- ==== The row at a place and the open rows of a form, by its kept nodes.
 
 -- ==== The row at a place, by its kept node.
 
@@ -241,3 +247,42 @@ last_level rows i row last whole =
     (omega (arith, last)) ∙ ap depth_of (read_at rows i found.0 found.1 found.2) in
     let end = last_depth (depths rows) i (last ∙ sym (length-map rows depth_of)) in
     omega (arith, open_levels rows, end, here, same)
+
+-- ==== What is true of a row that continues the geometry of the rows so far.
+
+-- the row continues the geometry of these rows
+pub record GoesOn (rows : List TableRow) (r : TableRow) : Type 0 where
+  pub valid : AreValidRowsOfOne largest_limits (rows ++ r ∷ [])
+  pub place : MayFollow (depths rows) r.depth
+  pub nodes : length rows < NODES_CAP
+  pub most : length (row_points rows) + length r.points ≤ POINTS_CAP
+
+-- no root comes after another row
+no_root : (rows : List TableRow) (r : TableRow) → IsOneRoot rows r → 0 < length rows → 0 < r.depth
+no_root [] r h some = absurd (omega arith)
+no_root (s ∷ rows) r h some = h
+
+-- what a row that continues the geometry is
+pub goes_on : (rows : List TableRow) (r : TableRow) → AreValidRowsOfOne largest_limits rows
+    → Continues largest_limits rows r → GoesOn rows r
+goes_on rows r v h =
+    let one = of_one largest_limits rows v in
+    let steps = (both_true (steps_to r.depth (reverse rows))
+    (fits (parent r.depth (reverse rows)) (first_child r.depth (reverse rows)) r)
+    h.0.admitted).0 in
+    let counted = one_geometry_rows rows r one h.1 in
+    let few : length (geometry_rows r.depth (reverse rows)) < NODES_CAP = h.0.nodes in
+    let room_left : point_count (geometry_rows r.depth (reverse rows)) + length r.points ≤ POINTS_CAP = h.0.points in
+    let all : length (geometry_rows r.depth (reverse rows)) ≡ length rows = ap (λ xs. length xs)
+    counted ∙ length-reverse rows in
+    let points : point_count (geometry_rows r.depth (reverse rows)) ≡ length (row_points rows) =
+    ap point_count counted ∙ point_count-reverse rows ∙ sym (length-row_points rows) in
+    record {
+      valid = continued largest_limits rows r v h;
+      place = record {
+        step = omega (arith, steps_within r.depth (reverse rows) steps, open_levels rows);
+        below = λ some. no_root rows r h.1 (omega (arith, some, length-map rows depth_of));
+      };
+      nodes = omega (arith, few, all);
+      most = omega (arith, room_left, points);
+    }

@@ -1,13 +1,20 @@
--- The links of kept nodes, and the walk along the open ones, from the last one up.
-use Rattle.std.proofs.Common.{◌≡◌, ℕ, suc, ◌+◌, ◌-◌, ◌<◌, ◌≤◌, ◌⊎◌, inl, inr, List, [], ◌∷◌, ◌++◌, length, set, get_or}
-use Rattle.std.proofs.Common.{refl, sym, ap, ◌∙◌, subst, arith, map, take}
+-- The links of kept nodes, the rows that these stand for, and what a returned node says.
+use Rattle.std.proofs.Common.{◌≡◌, ℕ, suc, ◌+◌, ◌-◌, ◌<◌, ◌≤◌, ◌⊎◌, inl, inr, List, [], ◌∷◌, ◌++◌, length, set}
+use Rattle.std.proofs.Common.{get_or, refl, sym, ap, ◌∙◌, subst, arith, map, take, zero, drop}
 use Rattle.std.proofs.lemmas.List.{length-set, length_push, get_or_append_left, get_or_push, get_or-set_same}
 use Rattle.std.proofs.lemmas.List.{get_or-set_other, length-map, length-take-le, get_or-map, get_or-take}
-use Rattle.std.proofs.lemmas.List.{get_or_default, take_all, take_more}
+use Rattle.std.proofs.lemmas.List.{get_or_default, take_all, take_more, length-append, length-take, length-drop}
+use Rattle.std.proofs.lemmas.List.{take-append-drop, take-append-le, drop-append-le}
 use Rattle.std.proofs.lemmas.Bool.{cases_lt, cases_eq}
-use Rattle.twkb_flat.specs.Links.{levels, IsNext, IsOpen, OpenPlace, IsUp, Linked, AreClosed, MayFollow}
+use Rattle.twkb_flat.specs.Rows.{levels, IsNext, IsOpen, OpenPlace, IsUp, Linked, AreClosed, MayFollow, row_with}
+use Rattle.twkb_flat.specs.Rows.{depths, IsNode}
 use Rattle.twkb_flat.specs.declared.kept_nodes.KeptNode.{KeptNode}
-use Rattle.twkb_flat.specs.KeptNodes.{placed_of, next_of, placed_depth, depths_in, links_in, IsUnlinked}
+use Rattle.twkb_flat.specs.KeptNodes.{placed_of, next_of, placed_depth, depths_in, links_in, IsUnlinked, listed, Laid}
+use Rattle.twkb_points.specs.Point.{Point}
+use Rattle.twkb_tree.specs.Rows.{Row as TableRow, row_points}
+use Rattle.twkb_flat.specs.declared.kept_nodes.PlacedRow.{PlacedRow}
+
+-- ==== The links of kept nodes, and the walk along the open ones, from the last one up.
 
 -- ==== The links stay right when a row is appended.
 
@@ -548,3 +555,168 @@ read_linked es mid at up blank unlinked some placed_rows closed parent =
     other_linked es mid at up unlinked some placed_rows
     (subst (λ (d : ℕ). AreClosed (take at (depths_in es)) (take at (links_in es)) (links_in mid)
     d at) (sym depth) closed) (λ e is. parent e (sym depth ∙ is))
+
+-- ==== The rows that kept nodes stand for.
+
+-- there is one row for each placed row
+pub length-listed : (ss : List PlacedRow) (ps : List Point) → length (listed ss ps) ≡ length ss
+length-listed [] ps = refl
+length-listed (s ∷ ss) ps = ap suc (length-listed ss (drop s.points ps))
+
+-- each row has the depth of its placed row
+pub depths-listed : (ss : List PlacedRow) (ps : List Point) → depths (listed ss ps) ≡ map placed_depth ss
+depths-listed [] ps = refl
+depths-listed (s ∷ ss) ps = ap (λ (ds : List ℕ). placed_depth s ∷ ds) (depths-listed ss (drop s.points ps))
+
+-- the total is at least the place where the first placed row begins
+pub laid_within : (at total : ℕ) (ss : List PlacedRow) → Laid at ss total → at ≤ total
+laid_within at total [] e = omega arith
+laid_within at total (s ∷ ss) (first, rest) = let more = laid_within (at + s.points) total ss rest in omega arith
+
+-- all points are those of the rows, from a place on
+points-listed : (at : ℕ) (ss : List PlacedRow) (ps : List Point) → Laid at ss (at + length ps)
+    → row_points (listed ss ps) ≡ ps
+points-listed at [] [] laid = refl
+points-listed at [] (p ∷ ps) laid = absurd (omega arith)
+points-listed at (s ∷ ss) ps (first, rest) =
+    let within = laid_within (at + s.points) (at + length ps) ss rest in
+    let total : at + length ps ≡ (at + s.points) + length (drop s.points ps) = omega (arith, length-drop s.points ps) in
+    ap (λ (qs : List Point). take s.points ps ++ qs)
+    (points-listed (at + s.points) ss (drop s.points ps)
+    (subst (λ (t : ℕ). Laid (at + s.points) ss t) total rest))
+    ∙ take-append-drop s.points ps
+
+-- all points are those of the rows
+pub flat_points : (ss : List PlacedRow) (ps : List Point) → Laid 0 ss (length ps) → row_points (listed ss ps) ≡ ps
+flat_points ss ps laid = points-listed 0 ss ps (subst (λ (n : ℕ). Laid 0 ss n) (omega arith) laid)
+
+-- the rows with one more placed row
+pub listed-push : (at : ℕ) (ss : List PlacedRow) (ps qs : List Point) (s : PlacedRow)
+    → Laid at ss (at + length ps) → s.points ≡ length qs
+    → listed (ss ++ s ∷ []) (ps ++ qs) ≡ listed ss ps ++ row_with s.row qs ∷ []
+listed-push at [] [] qs s laid count = ap (λ (own : List Point). row_with s.row own ∷ [])
+    (take_all s.points qs (omega arith))
+listed-push at [] (p ∷ ps) qs s laid count = absurd (omega arith)
+listed-push at (t ∷ ss) ps qs s (first, rest) count =
+    let within = laid_within (at + t.points) (at + length ps) ss rest in
+    let fits : t.points ≤ length ps = omega arith in
+    let total : at + length ps ≡ (at + t.points) + length (drop t.points ps) = omega (arith, length-drop t.points ps) in
+    rw (take-append-le t.points ps qs fits, drop-append-le t.points ps qs fits)
+    (ap (λ (rs : List TableRow). row_with t.row (take t.points ps) ∷ rs)
+    (listed-push (at + t.points) ss (drop t.points ps) qs s
+    (subst (λ (k : ℕ). Laid (at + t.points) ss k) total rest) count))
+
+-- the placed rows with one more, which comes after the others
+pub laid-push : (at total : ℕ) (ss : List PlacedRow) (s : PlacedRow) → Laid at ss total
+    → s.first ≡ total → Laid at (ss ++ s ∷ []) (total + s.points)
+laid-push at total [] s e first = (first ∙ sym e, ap (λ (k : ℕ). k + s.points) e)
+laid-push at total (t ∷ ss) s (here, rest) first = (here, laid-push (at + t.points) total ss s rest first)
+
+-- the rows from a place on
+pub record Here (at : ℕ) (ss : List PlacedRow) (ps : List Point) (i : ℕ) (s : PlacedRow) : Type 0 where
+  pub own : List Point
+  pub rest : List TableRow
+  pub here : drop i (listed ss ps) ≡ row_with s.row own ∷ rest
+  pub count : length own ≡ s.points
+  pub first : at + length (row_points (take i (listed ss ps))) ≡ s.first
+
+-- the rows from each place on
+pub row_at : (at : ℕ) (ss : List PlacedRow) (ps : List Point) (i : ℕ) (d : PlacedRow)
+    → Laid at ss (at + length ps) → i < length ss → Here at ss ps i (get_or ss i d)
+row_at at [] ps i d laid h = absurd (omega arith)
+row_at at (s ∷ ss) ps zero d (first, rest) h =
+    let within = laid_within (at + s.points) (at + length ps) ss rest in
+    record {
+      own = take s.points ps;
+      rest = listed ss (drop s.points ps);
+      here = refl;
+      count = omega (arith, length-take s.points ps);
+      first = omega arith;
+    }
+row_at at (s ∷ ss) ps (suc i) d (first, rest) h =
+    let within = laid_within (at + s.points) (at + length ps) ss rest in
+    let total : at + length ps ≡ (at + s.points) + length (drop s.points ps) = omega (arith, length-drop s.points ps) in
+    let below = row_at (at + s.points) ss (drop s.points ps) i d
+    (subst (λ (k : ℕ). Laid (at + s.points) ss k) total rest) (omega arith) in
+    record {
+      own = below.own;
+      rest = below.rest;
+      here = below.here;
+      count = below.count;
+      first = omega (
+        arith,
+        below.first,
+        length-append (take s.points ps)
+            (row_points (take i (listed ss (drop s.points ps)))),
+        length-take s.points ps,
+      );
+    }
+
+-- without placed rows there are no rows
+pub nil_rows : (ss : List PlacedRow) (ps : List Point) → length ss ≡ 0 → listed ss ps ≡ []
+nil_rows [] ps e = refl
+nil_rows (s ∷ ss) ps e = absurd (omega arith)
+
+-- with a placed row there is a row
+pub some_rows : (ss : List PlacedRow) (ps : List Point) → listed ss ps ≡ [] → length ss ≡ 0
+some_rows [] ps e = refl
+some_rows (s ∷ ss) ps e = cc
+
+-- ==== What a node returned by a flat form says about the rows.
+
+-- the link returned: for a row whose subtree has ended, it leads after the row's place
+abbrev pub Answers : ℕ → ℕ → ℕ → ℕ → Type 0
+Answers i kept total next = ((kept ≤ i) × (next ≡ total)) ⊎ ((i < kept) × (next ≡ kept))
+
+-- the link returned leads after the subtree
+next_is : (ds : List ℕ) (i kept total next : ℕ) → i < length ds → total ≡ length ds → Link ds i kept
+    → Answers i kept total next → IsNext ds i next
+next_is ds i kept total next h t (inl (is, up)) (inl (le, e)) = subst (λ (n : ℕ). IsNext ds i n)
+    (sym (e ∙ t)) (open_next ds i h is)
+next_is ds i kept total next h t (inl (is, up)) (inr (lt, e)) = let before = up.before in absurd (omega arith)
+next_is ds i kept total next h t (inr (is, within)) (inl (le, e)) = let after = is.after in absurd (omega arith)
+next_is ds i kept total next h t (inr (is, within)) (inr (lt, e)) = subst (λ (n : ℕ). IsNext ds i n) (sym e) is
+
+-- the node of a kept node
+pub node_is : (es : List KeptNode) (ps : List Point) (i next : ℕ) (e : KeptNode) (rows : List TableRow)
+    → Laid 0 (map placed_of es) (length ps) → Linked (depths_in es) (links_in es)
+    → listed (map placed_of es) ps ≡ rows → i < length es → e ≡ get_or es i e
+    → Answers i e.next.0 (length es) next
+    → IsNode rows i (record {
+      row = e.placed.row;
+      next = record { 0 = next };
+      first = record { 0 = e.placed.first };
+      points = e.placed.points;
+    })
+node_is es ps i next e rows all_laid linked view h is answers =
+    let inside : i < length (map placed_of es) = rw length-map h in
+    let laid : Laid 0 (map placed_of es) (0 + length ps) =
+    subst (λ (n : ℕ). Laid 0 (map placed_of es) n) (omega arith) all_laid in
+    let placed : get_or (map placed_of es) i e.placed ≡ e.placed = get_or-map placed_of es i e e.placed h
+    ∙ sym (ap placed_of is) in
+    let at = subst (λ (s : PlacedRow). Here 0 (map placed_of es) ps i s) placed
+    (row_at 0 (map placed_of es) ps i e.placed laid inside) in
+    let all = length-depths_in es in
+    let link = subst (λ (k : ℕ). Link (depths_in es) i k) (link_in es i e h is)
+    (linked.links i (omega (arith, h, all))) in
+    let links = next_is (depths_in es) i e.next.0 (length es) next (omega (arith, h, all)) (sym all) link answers in
+    subst (λ (rs : List TableRow).
+    IsNode rs i (record {
+      row = e.placed.row;
+      next = record { 0 = next };
+      first = record { 0 = e.placed.first };
+      points = e.placed.points;
+    })) view
+    (record {
+      own = at.own;
+      rest = at.rest;
+      here = at.here;
+      count = at.count;
+      first = omega (arith, at.first);
+      next = subst (λ (ds : List ℕ). IsNext ds i next) (sym (depths-listed (map placed_of es) ps)) links;
+      child = λ more. subst (λ (ds : List ℕ). get_or ds (i + 1) 0 ≤ e.placed.row.depth + 1)
+          (sym (depths-listed (map placed_of es) ps))
+          (let step = linked.steps i (omega (arith, length-listed (map placed_of es) ps, length-map es placed_of)) in
+          let here = depth_in es i e h is in
+          omega arith);
+    })

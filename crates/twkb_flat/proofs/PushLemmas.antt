@@ -7,13 +7,11 @@ use Rattle.std.specs.Prelude.{reverse, is_some, is_none, nat_le}
 use Rattle.twkb_points.specs.Point.{Point, IsInRange}
 use Rattle.twkb_tree.specs.declared.limits.TheConstants.{POINTS_CAP, NODES_CAP}
 use Rattle.twkb_tree.specs.Limits.{largest_limits}
-use Rattle.twkb_tree.specs.Rows.{Row as TableRow, row_points, whole_row, plain_row}
-use Rattle.twkb_tree.specs.Accepted.{Continues}
-use Rattle.twkb_tree.specs.RowLists.{AreValidRowsOfOne}
+use Rattle.twkb_tree.specs.Rows.{Row as TableRow, row_points, whole_row, plain_row, AreValidRowsOfOne}
+use Rattle.twkb_tree.specs.Admits.{Continues, id_in_range, has_same_ids, fits}
 use Rattle.twkb_tree.specs.declared.kind.Kind.{Kind}
 use Rattle.twkb_tree.specs.Tree.{IsPrecision}
 use Rattle.twkb_tree.specs.declared.open_rows.OpenRow.{OpenRow}
-use Rattle.twkb_tree.specs.Admits.{id_in_range, has_same_ids, fits}
 use Rattle.twkb_tree.specs.Refusal.{checks_under, first_failed}
 use Rattle.twkb_tree.specs.Open.{AreOpen, IsOpenAt, opened, open_count, open_parent, open_refusal, open_continues}
 use Rattle.twkb_tree.specs.Open.{is_next, row_of, child_of, child_by}
@@ -24,16 +22,14 @@ use Rattle.twkb_tree.proofs.RowLaws.{length-row_points, row_points-append}
 use Rattle.twkb_flat.specs.declared.node.Row.{Row}
 use Rattle.twkb_flat.specs.declared.kept_nodes.PlacedRow.{PlacedRow}
 use Rattle.twkb_flat.specs.declared.kept_nodes.KeptNode.{KeptNode}
-use Rattle.twkb_flat.specs.Links.{Linked, MayFollow, levels}
-use Rattle.twkb_flat.specs.Rows.{row_with, depths}
+use Rattle.twkb_flat.specs.Rows.{Linked, MayFollow, levels, row_with, depths}
 use Rattle.twkb_flat.specs.KeptNodes.{IsFlat, IsPut, IsUnlinked, Laid, listed, placed_of, next_of, placed_depth}
 use Rattle.twkb_flat.specs.KeptNodes.{depths_in, links_in, new_node}
-use Rattle.twkb_flat.specs.Members.{with_member, OpenInMember, EndsInMember}
+use Rattle.twkb_flat.specs.Taking.{with_member, OpenInMember, EndsInMember}
 use Rattle.twkb_flat.proofs.LinkLemmas.{length-depths_in, link_in, some_node, root_linked, last_depth, linked_beside}
-use Rattle.twkb_flat.proofs.GoingOn.{GoesOn, goes_on}
-use Rattle.twkb_flat.proofs.RowLemmas.{length-listed, depths-listed, flat_points, laid-push, listed-push, some_rows}
-use Rattle.twkb_flat.proofs.OpenPlaceLemmas.{later_next, open_is, rows_open}
-use Rattle.twkb_flat.proofs.FlatOpenLemmas.{flat_levels}
+use Rattle.twkb_flat.proofs.LinkLemmas.{length-listed, depths-listed, flat_points, laid-push, listed-push, some_rows}
+use Rattle.twkb_flat.proofs.FlatOpenLemmas.{GoesOn, goes_on, flat_levels}
+use Rattle.twkb_flat.proofs.LastPoint.{later_next, open_is, rows_open}
 
 -- ==== The form after a push.
 

@@ -1,15 +1,18 @@
 -- The kept nodes, and the rows that they stand for.
-use Rattle.std.specs.Prelude.{ℕ, ◌≡◌, ◌+◌, ◌<◌, ◌≤◌, ◌^◌, ⊤, List, [], ◌∷◌, ◌++◌, map, length, slice_index, take, drop}
+use Rattle.std.specs.Prelude.{ℕ, ◌≡◌, ◌+◌, ◌<◌, ◌≤◌, ◌^◌, ⊤, List, [], ◌∷◌, ◌++◌, map, length, slice_index, take}
+use Rattle.std.specs.Prelude.{drop, ◌⊎◌}
 use Rattle.twkb_points.specs.Point.{Point}
 use Rattle.twkb_tree.specs.declared.limits.TheConstants.{NODES_CAP, POINTS_CAP}
 use Rattle.twkb_tree.specs.Limits.{largest_limits}
-use Rattle.twkb_tree.specs.Rows.{Row as TableRow}
-use Rattle.twkb_tree.specs.RowLists.{AreValidRowsOfOne}
+use Rattle.twkb_tree.specs.Rows.{Row as TableRow, AreValidRowsOfOne}
 use Rattle.twkb_flat.specs.declared.kept_nodes.PlacedRow.{PlacedRow}
 use Rattle.twkb_flat.specs.declared.kept_nodes.KeptNode.{KeptNode}
 use Rattle.twkb_flat.specs.declared.node.Row.{Row}
-use Rattle.twkb_flat.specs.Rows.{row_with}
-use Rattle.twkb_flat.specs.Links.{Linked, MayFollow}
+use Rattle.twkb_flat.specs.Rows.{row_with, Linked, MayFollow}
+use Rattle.twkb_tree.specs.declared.kind.Kind.{Kind}
+use Rattle.twkb_tree.specs.declared.kind.Kind.TheVariants as kind
+
+-- ==== The kept nodes, and the rows that they stand for.
 
 -- the placed row of a node
 abbrev pub placed_of : KeptNode → PlacedRow
@@ -80,3 +83,15 @@ abbrev pub LastHasRoom : ℕ → List KeptNode → Type 0
 LastHasRoom n [] = ⊤
 LastHasRoom n (e ∷ []) = e.placed.points + n < 2 ^ 32
 LastHasRoom n (e ∷ f ∷ es) = LastHasRoom n (f ∷ es)
+
+-- ==== The kind of the last kept node.
+
+-- the kind is a linestring's or a ring's
+abbrev pub IsLineKind : Kind → Type 0
+IsLineKind k = (k ≡ kind.Linestring) ⊎ (k ≡ kind.Ring)
+
+-- there is a kept node, and the last one is that of a linestring or a ring
+abbrev pub LastIsLine : List KeptNode → Type 0
+LastIsLine [] = ⊥
+LastIsLine (e ∷ []) = IsLineKind e.placed.row.kind
+LastIsLine (e ∷ f ∷ es) = LastIsLine (f ∷ es)

@@ -2,11 +2,9 @@
 ghost use Rattle.std.specs.Prelude.{◌≡◌, ◌++◌, ◌∷◌, [], ℕ, ℤ, List, Option, drop, OnOk, IfOk};
 ghost use Rattle.twkb_points.specs.Point.{Point};
 ghost use Rattle.twkb_tree.specs.Limits.{largest_limits};
-ghost use Rattle.twkb_tree.specs.Rows.{Row as TableRow, ring_rows};
-ghost use Rattle.twkb_tree.specs.RowLists.{AreValidRowsOfOne};
+ghost use Rattle.twkb_tree.specs.Rows.{Row as TableRow, ring_rows, AreValidRowsOfOne};
 ghost use Rattle.twkb_tree.specs.declared.kind.Kind.{Kind};
-ghost use Rattle.twkb_flat.specs.Components.{component_rows};
-ghost use Rattle.twkb_flat.specs.Taking.{OneAt, IsAny};
+ghost use Rattle.twkb_flat.specs.Taking.{component_rows, OneAt, IsAny};
 
 use crate::built_geometry::take_each;
 use crate::flat::Flat;

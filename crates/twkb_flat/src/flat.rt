@@ -4,9 +4,8 @@ ghost use Rattle.std.specs.Prelude.{slice_get, Some, None, OnOk, OnErr, IfErr, I
 ghost use Rattle.twkb_points.specs.Point.{Point};
 ghost use Rattle.twkb_tree.specs.Tree.{saturated, IsPrecision};
 ghost use Rattle.twkb_tree.specs.Limits.{largest_limits};
-ghost use Rattle.twkb_tree.specs.Rows.{row_points, whole_row};
-ghost use Rattle.twkb_tree.specs.Accepted.{Continues};
-ghost use Rattle.twkb_tree.specs.RowLists.{AreValidRowsOfOne};
+ghost use Rattle.twkb_tree.specs.Rows.{row_points, whole_row, AreValidRowsOfOne};
+ghost use Rattle.twkb_tree.specs.Admits.{Continues};
 ghost use Rattle.twkb_flat.specs.Rows.{IsNode, row_with};
 
 use crate::kept_nodes::{KeptNode, PlacedRow, link_last, put_point, put_row};

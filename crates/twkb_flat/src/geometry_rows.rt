@@ -3,8 +3,8 @@ ghost use Rattle.std.specs.Prelude.{◌≡◌, ◌++◌, OnOk, IfOk};
 ghost use Rattle.twkb_tree.specs.Limits.{largest_limits, IsValid};
 ghost use Rattle.twkb_tree.specs.Tree.{trees};
 ghost use Rattle.twkb_tree.specs.Rows.{rows, rows_with, rows_under, own_row, member_rows, rows_of_each};
-ghost use Rattle.twkb_tree.specs.RowLists.{AreValidRowsOfOne};
-ghost use Rattle.twkb_flat.specs.Components.{IsSimple, component_rows};
+ghost use Rattle.twkb_tree.specs.Rows.{AreValidRowsOfOne};
+ghost use Rattle.twkb_flat.specs.Taking.{IsSimple, component_rows};
 ghost use Rattle.twkb_flat.specs.Rows.{row_with};
 
 use crate::components::Component;

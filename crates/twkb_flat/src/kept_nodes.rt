@@ -4,11 +4,9 @@ ghost use Rattle.std.specs.Prelude.{length, map, take, slice_set, slice_get, OnO
 ghost use Rattle.twkb_points.specs.Point.{Point};
 ghost use Rattle.twkb_tree.specs.declared.limits.TheConstants.{POINTS_CAP};
 ghost use Rattle.twkb_tree.specs.Open.{ids_by};
-ghost use Rattle.twkb_flat.specs.KeptNodes.{placed_of, depths_in, links_in, listed, last_longer};
-ghost use Rattle.twkb_flat.specs.KeptNodes.{LastHasRoom, IsPut};
-ghost use Rattle.twkb_flat.specs.KeptNodes.{IsUnlinked};
-ghost use Rattle.twkb_flat.specs.Links.{levels, OpenPlace, Linked, AreClosed, MayFollow};
-ghost use Rattle.twkb_flat.specs.Lasts.{IsLineKind, LastIsLine};
+ghost use Rattle.twkb_flat.specs.KeptNodes.{placed_of, depths_in, links_in, listed, last_longer, LastHasRoom, IsPut};
+ghost use Rattle.twkb_flat.specs.KeptNodes.{IsUnlinked, IsLineKind, LastIsLine};
+ghost use Rattle.twkb_flat.specs.Rows.{levels, OpenPlace, Linked, AreClosed, MayFollow};
 
 use crate::node::{NodeId, Row};
 use crate::point_source::PointSource;

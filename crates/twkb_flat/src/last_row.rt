@@ -4,7 +4,7 @@ ghost use Rattle.std.specs.Prelude.{OnErr, IsTrue, true, is_some};
 ghost use Rattle.twkb_tree.specs.declared.limits.TheConstants.{POINTS_CAP, NODES_CAP};
 ghost use Rattle.twkb_tree.specs.Rows.{row_points, plain_row};
 ghost use Rattle.twkb_tree.specs.RowGrowth.{EndsInLine, point_added, points_added};
-ghost use Rattle.twkb_flat.specs.Members.{EndsInMember};
+ghost use Rattle.twkb_flat.specs.Taking.{EndsInMember};
 
 use crate::flat::Flat;
 use crate::kept_nodes::{KeptNode, PlacedRow, count_points, ends_in_line, link, put_point};

@@ -3,9 +3,8 @@ ghost use Rattle.std.specs.Prelude.{◌≡◌, ℕ, ◌+◌, ◌≤◌, ◌++◌
 ghost use Rattle.twkb_tree.specs.declared.limits.TheConstants.{NODES_CAP, POINTS_CAP};
 ghost use Rattle.twkb_tree.specs.Limits.{largest_limits, IsValid};
 ghost use Rattle.twkb_tree.specs.Tree.{Tree, saturated};
-ghost use Rattle.twkb_tree.specs.Rows.{Row as TableRow, rows, row_points};
-ghost use Rattle.twkb_tree.specs.Accepted.{Continues};
-ghost use Rattle.twkb_tree.specs.RowLists.{AreValidRowsOfOne};
+ghost use Rattle.twkb_tree.specs.Rows.{Row as TableRow, rows, row_points, AreValidRowsOfOne};
+ghost use Rattle.twkb_tree.specs.Admits.{Continues};
 ghost use Rattle.twkb_flat.specs.declared.node.Node.{Node};
 ghost use Rattle.twkb_flat.specs.Rows.{IsNode};
 

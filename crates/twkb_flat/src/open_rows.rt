@@ -2,11 +2,9 @@
 ghost use Rattle.std.specs.Prelude.{◌≡◌, ◌<◌, ◌≤◌, true, List, length, reverse, MatchOption};
 ghost use Rattle.twkb_tree.specs.declared.open_rows.OpenRow.{OpenRow};
 ghost use Rattle.twkb_tree.specs.Limits.{largest_limits};
-ghost use Rattle.twkb_tree.specs.RowLists.{AreValidRowsOfOne};
-ghost use Rattle.twkb_tree.specs.Open.{AreOpen, IsOpenAt, open_count};
-ghost use Rattle.twkb_tree.specs.Rows.{row_points};
-ghost use Rattle.twkb_tree.specs.RowPlace.{row_place_at};
-ghost use Rattle.twkb_flat.specs.Members.{EndsInMember};
+ghost use Rattle.twkb_tree.specs.Rows.{AreValidRowsOfOne, row_points};
+ghost use Rattle.twkb_tree.specs.Open.{AreOpen, IsOpenAt, open_count, row_place_at};
+ghost use Rattle.twkb_flat.specs.Taking.{EndsInMember};
 
 use crate::flat::Flat;
 use crate::kept_nodes::{child_ids, open_at};

@@ -5,11 +5,11 @@ use Rattle.std.proofs.Common.{append_assoc, append-nil, length-append, Bool}
 use Rattle.std.specs.Prelude.{◌≤ℤ◌, ◌-ℤ◌, flat_map, ◌+ℤ◌}
 use Rattle.std.proofs.lemmas.Int.{ints}
 use Rattle.std.proofs.lemmas.Bool.{false≢true}
-use Rattle.twkb_num.specs.Zigzag.{zigzag_of, unzigzag_of}
+use Rattle.twkb_num.specs.Spelling.{zigzag_of, unzigzag_of}
 use Rattle.twkb_num.proofs.ZigzagLemmas.{unzigzag_of-zigzag_of}
 use Rattle.twkb_points.specs.Point.{IsCoordinate, Point, origin, point_at}
-use Rattle.twkb_points.specs.Differences.{differences_from}
-use Rattle.twkb_tree.proofs.AllJoined.{all_join}
+use Rattle.twkb_points.specs.Steps.{differences_from}
+use Rattle.twkb_tree.proofs.RowLaws.{all_join}
 use Rattle.twkb_tree.specs.Tree.{IsPrecision, IsId, Simple, point, line, polygon, multi_point, multi_line}
 use Rattle.twkb_tree.specs.Tree.{multi_polygon, points_in, flatten, Ids, simple, IdsFit, HasIds, Tree}
 use Rattle.twkb_grammar.specs.Roles.{Field, Count, Id, X, Y, Item, Role, Counted, Vertices, Rings, AreFields, join}
@@ -17,7 +17,7 @@ use Rattle.twkb_grammar.specs.Roles.{Header, Metadata, Extended, Size, Box, End,
 use Rattle.twkb_grammar.specs.Items.{Slot, OfCount, OfId, OfPoint, filled, fields, slots, run_of, rings_of, id_slots}
 use Rattle.twkb_grammar.specs.Items.{flags, members, Agrees, declared, end_item, Flags, Framed, header_byte}
 use Rattle.twkb_grammar.specs.Items.{AreOptional}
-use Rattle.twkb_grammar.specs.Spans.{before_body}
+use Rattle.twkb_grammar.specs.Noting.{before_body}
 use Rattle.std.specs.List.{AllByRecursion}
 use Rattle.twkb_grammar.specs.Bits.{bit}
 use Rattle.twkb_grammar.specs.Fault.{moved}

@@ -4,13 +4,13 @@ use Rattle.std.proofs.Common.{Some, None, map, arith, Bool, true, false, ◌+◌
 use Rattle.std.proofs.lemmas.Int.{ints}
 use Rattle.std.proofs.lemmas.List.Concat.{flat_map-append}
 use Rattle.std.specs.Prelude.{⊤, ℤ, flat_map, if◌then◌else◌, ◌-ℤ◌, ◌+ℤ◌}
-use Rattle.twkb_num.specs.Zigzag.{zigzag_of, unzigzag_of}
+use Rattle.twkb_num.specs.Spelling.{zigzag_of, unzigzag_of}
 use Rattle.twkb_num.proofs.ZigzagLemmas.{zigzag_of-unzigzag_of}
 use Rattle.twkb_points.specs.Point.{Point, origin}
 use Rattle.twkb_tree.specs.Tree.{Ids, HasIds, IdsFit}
 use Rattle.twkb_grammar.specs.Bits.{bit}
-use Rattle.twkb_grammar.specs.Roles.{Item, Role, X, Y, Count, Counted, Id, Field, AreFields, Spells}
-use Rattle.twkb_grammar.specs.Roles.{Vertices, Rings, Points, Components}
+use Rattle.twkb_grammar.specs.Roles.{Item, Role, X, Y, Count, Counted, Id, Field, AreFields, Spells, Vertices, Rings}
+use Rattle.twkb_grammar.specs.Roles.{Points, Components}
 use Rattle.twkb_grammar.specs.Items.{Slot, OfCount, OfId, OfPoint, id_slots, slots, kind_of, members, parts, flags}
 use Rattle.twkb_grammar.specs.Items.{Agrees}
 use Rattle.twkb_grammar.specs.Fault.{moved}

@@ -5,30 +5,28 @@ use Rattle.std.specs.Prelude.{◌≢◌, ◌⊎◌}
 use Rattle.twkb_num.specs.Varint.{IsVarint}
 use Rattle.twkb_tree.specs.Tree.{Tree, flat}
 use Rattle.twkb_tree.specs.Limits.{Allowance, IsAllowance}
-use Rattle.twkb_grammar.specs.Roles.{Role, Header, Metadata, Extended, Count, Id, End, IsNumber, Item}
-use Rattle.twkb_grammar.specs.Roles.{Spells, join, IsItem}
-use Rattle.twkb_grammar.specs.Blob.{Blob, Stream}
+use Rattle.twkb_grammar.specs.Roles.{Role, Header, Metadata, Extended, Count, Id, End, IsNumber, Item, Spells, join}
+use Rattle.twkb_grammar.specs.Roles.{IsItem}
+use Rattle.twkb_grammar.specs.Items.{Blob, Stream}
 use Rattle.twkb_grammar.specs.Fault.{Truncated, GoOn, FirstFault, StreamFault, points_by}
 use Rattle.twkb_grammar.specs.Machine.{Finished, Sums, nothing, sums_after, Stack, started, role_at, Runs, stack_after}
 use Rattle.twkb_grammar.specs.Machine.{first_count, phase_role, Phase}
 use Rattle.twkb_grammar.specs.Machine.{AtHeader, AtMetadata, AtOption, AtCount, AtId, AtBody, AtEnd, kind_number, Frame}
 use Rattle.twkb_grammar.specs.Machine.{added}
 use Rattle.twkb_grammar.specs.Reading.{Stands, IsSamePlace, frame_count}
-use Rattle.twkb_grammar.specs.Noting.{Notes, no_notes, noted_by, noted, note_byte}
-use Rattle.twkb_grammar.specs.Noting.{note_ends, note_ends_to, IsQuiet, IsCalm, notes_of}
-use Rattle.twkb_grammar.specs.Spans.{spans_of_blob}
+use Rattle.twkb_grammar.specs.Noting.{Notes, no_notes, noted_by, noted, note_byte, note_ends, note_ends_to, IsQuiet}
+use Rattle.twkb_grammar.specs.Noting.{IsCalm, notes_of, spans_of_blob}
 use Rattle.twkb_grammar.proofs.BodiesBack.{some_role, sums_after-append}
-use Rattle.twkb_grammar.proofs.Dead.{run_ends}
+use Rattle.twkb_grammar.proofs.Stepping.{run_ends}
 use Rattle.twkb_grammar.proofs.Streams.{no_items, streams_same}
 use Rattle.twkb_grammar.proofs.Trees.{tree_total, total}
-use Rattle.twkb_grammar.proofs.Parts.{blob_runs, runs_same, run_on, peel}
-use Rattle.twkb_grammar.proofs.OneFault.{Beyond, Compared, longer, shorter, same, two_fronts, none_beyond, left_cancel}
-use Rattle.twkb_grammar.proofs.OneFault.{join-beyond}
+use Rattle.twkb_grammar.proofs.Parts.{blob_runs, runs_same, run_on, peel, reached_frames, body_each}
+use Rattle.twkb_grammar.proofs.OneFault.{Beyond, Compared, longer, shorter, same, two_fronts, none_beyond}
+use Rattle.twkb_grammar.proofs.OneFault.{left_cancel, join-beyond}
 use Rattle.twkb_grammar.proofs.Running.{reached_nothing, role_behind, reached_bytes, reached_cut, reached_end}
 use Rattle.twkb_grammar.proofs.Bodies.{Runs-append, bytes_after}
 use Rattle.twkb_grammar.proofs.NotedSpans.{AreEnds, ends_only, none_front, ends_noted, ends_add, all_open, ends_to}
 use Rattle.twkb_grammar.proofs.NotedSpans.{Same, blob_noted, noted-append, points_total, quiet}
-use Rattle.twkb_grammar.proofs.Frames.{reached_frames, body_each}
 
 -- ==== The state of a reader of a stream is determined by the bytes alone, and so is its answer at their end.
 

@@ -8,20 +8,19 @@ use Rattle.twkb_tree.specs.Tree.{Tree}
 use Rattle.twkb_tree.specs.Limits.{Allowance, IsAllowance, IsValid}
 use Rattle.twkb_grammar.specs.Bits.{AreBytes}
 use Rattle.twkb_grammar.specs.Roles.{Header, Item, Spells, join}
-use Rattle.twkb_grammar.specs.Items.{Items}
-use Rattle.twkb_grammar.specs.Blob.{Blob, BlobInFront, Stream}
+use Rattle.twkb_grammar.specs.Items.{Items, Blob, BlobInFront, Stream}
 use Rattle.twkb_grammar.specs.Written.{canonical_blob, canonical_stream}
 use Rattle.twkb_grammar.specs.declared.style.Style.{Style}
 use Rattle.twkb_grammar.specs.Fault.{Reason, Refused, Fault, FirstFault, StreamFault}
 use Rattle.twkb_grammar.specs.Machine.{Finished, AtHeader, nothing, started, Stack, Runs}
-use Rattle.twkb_grammar.specs.PlainReader.{Answer, Made, RefusedAt, GoesOn, decode}
+use Rattle.twkb_grammar.specs.Reading.{Answer, Made, RefusedAt, GoesOn, decode}
 use Rattle.twkb_grammar.proofs.BodiesBack.{some_role}
 use Rattle.twkb_grammar.proofs.Trees.{tree_runs}
 use Rattle.twkb_grammar.proofs.Parts.{blob_runs, front_runs, peel, one_blob_lem}
 use Rattle.twkb_grammar.proofs.OneFault.{left_cancel, one_first_fault, no_fault}
 use Rattle.twkb_grammar.proofs.WrittenBlobs.{written_blob}
 use Rattle.twkb_grammar.proofs.NotedSpans.{none_front}
-use Rattle.twkb_grammar.proofs.Decoding.{Outcome, bytes_left, decoded}
+use Rattle.twkb_grammar.proofs.Running.{Outcome, bytes_left, decoded}
 
 -- items run through from the start have at least one byte
 pub first_item : (i : Item) (is : List Item) (last : Stack) → Runs nothing started (i ∷ is) last

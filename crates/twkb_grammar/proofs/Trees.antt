@@ -11,8 +11,7 @@ use Rattle.twkb_tree.specs.Tree.{Ids, Simple, point, line, polygon, multi_point,
 use Rattle.twkb_tree.specs.Tree.{simple, collection, Trees, end, ◌▷◌, count, HasIds, IdsFit, IsTree, AreTrees, nodes}
 use Rattle.twkb_tree.specs.Tree.{nodes_all, nodes_in, area_nodes, flat, flat_all, points_in, flatten}
 use Rattle.twkb_grammar.specs.Bits.{bit}
-use Rattle.twkb_grammar.specs.Roles.{Item, Role, Header, Metadata, Count, Counted, Id}
-use Rattle.twkb_grammar.specs.Roles.{AreFields, Geometries}
+use Rattle.twkb_grammar.specs.Roles.{Item, Role, Header, Metadata, Count, Counted, Id, AreFields, Geometries}
 use Rattle.twkb_grammar.specs.Items.{Slot, OfCount, OfId, OfPoint, id_slots, declared, end_item, Flags, Framed}
 use Rattle.twkb_grammar.specs.Items.{header_byte, filled, fields, Agrees, flags, flags_all, BodyAt, Follow, Items}
 use Rattle.twkb_grammar.specs.Items.{ItemsOfAll, kind_of, id_fields, slots, run_of, rings_of}
@@ -213,7 +212,7 @@ pub ids_steps : (ids : List ℤ) → filled (Rattle.std.specs.Prelude.map OfId i
     (Rattle.std.specs.Prelude.map OfId ids ++ [])
 ids_steps [] = refl
 ids_steps (id ∷ ids) =
-    ap (λ fs. (Rattle.twkb_grammar.specs.Roles.Id, Rattle.twkb_num.specs.Zigzag.zigzag_of id) ∷ fs)
+    ap (λ fs. (Rattle.twkb_grammar.specs.Roles.Id, Rattle.twkb_num.specs.Spelling.zigzag_of id) ∷ fs)
     (ids_steps ids)
 
 -- the fields of optional ids, along their slots

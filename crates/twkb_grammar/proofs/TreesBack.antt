@@ -9,7 +9,7 @@ use Rattle.std.specs.List.{AllByRecursion}
 use Rattle.std.proofs.lemmas.List.{map-append}
 use Rattle.std.proofs.lemmas.List.Concat.{flat_map-append}
 use Rattle.twkb_num.specs.Varint.{IsVarint}
-use Rattle.twkb_num.specs.Zigzag.{unzigzag_of}
+use Rattle.twkb_num.specs.Spelling.{unzigzag_of}
 use Rattle.twkb_num.proofs.ZigzagLemmas.{zigzag_of-unzigzag_of}
 use Rattle.twkb_points.specs.Point.{Point, origin}
 use Rattle.twkb_tree.specs.Tree.{Tree, IsPrecision, IsTree, simple, collection, Trees, end, ◌▷◌, count, Ids, HasIds}
@@ -17,9 +17,9 @@ use Rattle.twkb_tree.specs.Tree.{AreTrees, IsId}
 use Rattle.twkb_grammar.specs.Bits.{bit}
 use Rattle.twkb_grammar.specs.Roles.{Item, IsItem, Role, Header, Metadata, Extended, Size, Box, End, Spells, join}
 use Rattle.twkb_grammar.specs.Roles.{HaveRoles, where_set, item, Count, Id, Geometries, AreFields, Field}
-use Rattle.twkb_grammar.specs.Items.{declared, end_item, Items, header_byte, id_slots, fields, Agrees, Flags}
-use Rattle.twkb_grammar.specs.Items.{flags, flags_all, ItemsOfAll, id_fields, BodyAt, Framed, AreOptional, Follow}
-use Rattle.twkb_grammar.specs.Items.{OfCount, OfId}
+use Rattle.twkb_grammar.specs.Items.{declared, end_item, Items, header_byte, id_slots, fields, Agrees, Flags, flags}
+use Rattle.twkb_grammar.specs.Items.{flags_all, ItemsOfAll, id_fields, BodyAt, Framed, AreOptional, Follow, OfCount}
+use Rattle.twkb_grammar.specs.Items.{OfId}
 use Rattle.twkb_grammar.specs.Fault.{moved}
 use Rattle.twkb_grammar.specs.Reading.{Here, Kept}
 use Rattle.twkb_grammar.specs.Machine.{top, Body, Want, WantY, Done, opened, BodyForm, PointForm}

@@ -6,7 +6,7 @@ use Rattle.std.specs.Prelude.{ℤ, flat_map, if◌then◌else◌, ◌&&◌, not}
 use Rattle.std.specs.Int.{int_min, int_max}
 use Rattle.std.proofs.lemmas.Int.{ints, clamps}
 use Rattle.twkb_num.specs.Varint.{varint_of}
-use Rattle.twkb_num.specs.Zigzag.{zigzag_of}
+use Rattle.twkb_num.specs.Spelling.{zigzag_of}
 use Rattle.twkb_num.proofs.VarintLemmas.{IsVarint-varint_of, length-varint_of}
 use Rattle.twkb_points.specs.Point.{Point, IsCoordinate, IsInRange, AreInRange, origin}
 use Rattle.twkb_points.specs.Extent.{Extent, extent_of, joined, joined_options, extent, box_numbers, tight}
@@ -14,23 +14,21 @@ use Rattle.twkb_tree.specs.Tree.{Tree, flat, precision_of, Ids, Simple, point, l
 use Rattle.twkb_tree.specs.Tree.{multi_polygon, AreIds, HasIds, IdsFit, flatten, points_in, nodes_in, area_nodes}
 use Rattle.twkb_tree.specs.Tree.{simple, collection, Trees, end, ◌▷◌, count, flat_all, nodes, nodes_all, IsTree}
 use Rattle.twkb_tree.specs.Tree.{AreTrees}
-use Rattle.twkb_tree.specs.Uniform.{uniform}
+use Rattle.twkb_tree.specs.Limits.{uniform, Allowance, IsAllowance, IsValid}
 use Rattle.twkb_tree.specs.declared.limits.TheConstants.{POINTS_CAP, NODES_CAP}
-use Rattle.twkb_tree.specs.Limits.{Allowance, IsAllowance, IsValid}
 use Rattle.twkb_grammar.specs.Roles.{IsNumber, Role, Header, Metadata, Extended, Size, Box, Count, Id, End, Item}
 use Rattle.twkb_grammar.specs.Roles.{Spells, join, Field, AreFields, HaveRoles, where_set, item, Geometries}
-use Rattle.twkb_grammar.specs.Blob.{IsExact, AreExact, Blob}
+use Rattle.twkb_grammar.specs.Items.{IsExact, AreExact, Blob, BodyAt, Framed, Flags, MustBeEmpty, MayBeEmpty, HasBody}
+use Rattle.twkb_grammar.specs.Items.{HasMembers, Agrees, declared, header_byte, end_item, Slot, OfCount, OfId}
+use Rattle.twkb_grammar.specs.Items.{OfPoint, id_slots, run_of, rings_of, slots, fields, Follow, Items, ItemsOfAll}
+use Rattle.twkb_grammar.specs.Items.{id_fields, filled}
 use Rattle.twkb_grammar.specs.Written.{varints, box_of, boxed, has_any, is_point, is_empty, flag_bits, flags_of_tree}
 use Rattle.twkb_grammar.specs.Written.{kind_of_tree, metadata_byte, framed, written, canonical_blob, canonical_members}
 use Rattle.twkb_grammar.specs.Bits.{bit}
-use Rattle.twkb_grammar.specs.Items.{BodyAt, Framed, Flags, MustBeEmpty, MayBeEmpty, HasBody, HasMembers, Agrees}
-use Rattle.twkb_grammar.specs.Items.{declared}
-use Rattle.twkb_grammar.specs.Items.{header_byte, end_item, Slot, OfCount, OfId, OfPoint, id_slots, run_of, rings_of}
-use Rattle.twkb_grammar.specs.Items.{slots, fields, Follow, Items, ItemsOfAll, id_fields, filled}
 use Rattle.twkb_grammar.specs.declared.style.Style.{Style}
 use Rattle.twkb_grammar.specs.declared.style.Style.TheVariants.{Full, Plain}
 use Rattle.twkb_grammar.proofs.Bodies.{difference_fits, coordinate_fits, id_fits, steps, fields_are}
-use Rattle.twkb_tree.proofs.AllJoined.{all_join, all_apart}
+use Rattle.twkb_tree.proofs.RowLaws.{all_join, all_apart}
 
 -- ==== Fields as items, each number as its shortest varint.
 

@@ -1,17 +1,21 @@
--- The items of a geometry, with every choice that the format leaves free, and no other (TWKB,
+-- The items of a geometry, with every choice that the format leaves free, and no other, and blobs of them (TWKB,
 -- structure and description of types).
-use Rattle.std.specs.Prelude.{◌≡◌, ℕ, suc, ◌+◌, ◌*◌, ◌<◌, Bool, true, false, List, [], ◌∷◌, ◌++◌}
-use Rattle.std.specs.Prelude.{map, length, ℤ, Option, Some, None, flat_map, ⊤}
-use Rattle.twkb_num.specs.Zigzag.{zigzag_of}
+use Rattle.std.specs.Prelude.{◌≡◌, ℕ, suc, ◌+◌, ◌*◌, ◌<◌, Bool, true, false, List, [], ◌∷◌, ◌++◌, map, length, ℤ}
+use Rattle.std.specs.Prelude.{Option, Some, None, flat_map, ⊤}
+use Rattle.twkb_num.specs.Spelling.{zigzag_of}
 use Rattle.twkb_points.specs.Point.{Point}
-use Rattle.twkb_points.specs.Differences.{differences}
-use Rattle.twkb_tree.specs.Tree.{Simple, point, line, polygon, multi_point, multi_line}
-use Rattle.twkb_tree.specs.Tree.{multi_polygon, Tree, simple, collection, Trees, end, ◌▷◌, count}
-use Rattle.twkb_tree.specs.Tree.{points_in, Ids}
+use Rattle.twkb_points.specs.Steps.{differences}
+use Rattle.twkb_tree.specs.Tree.{Simple, point, line, polygon, multi_point, multi_line, multi_polygon, Tree, simple}
+use Rattle.twkb_tree.specs.Tree.{collection, Trees, end, ◌▷◌, count, points_in, Ids}
 use Rattle.twkb_grammar.specs.Bits.{bit}
-use Rattle.twkb_grammar.specs.Roles.{Counted, Vertices, Rings, Points, Components, Geometries, Header}
-use Rattle.twkb_grammar.specs.Roles.{Metadata, Extended, Size, Box, Count, Id, X, Y, End, Item}
-use Rattle.twkb_grammar.specs.Roles.{join, Field, AreFields, HaveRoles, where_set, item}
+use Rattle.twkb_grammar.specs.Roles.{Counted, Vertices, Rings, Points, Components, Geometries, Header, Metadata}
+use Rattle.twkb_grammar.specs.Roles.{Extended, Size, Box, Count, Id, X, Y, End, Item, join, Field, AreFields}
+use Rattle.twkb_grammar.specs.Roles.{HaveRoles, where_set, item, Role}
+use Rattle.std.specs.List.{AllByRecursion}
+use Rattle.twkb_tree.specs.Limits.{Allowance, IsValid}
+
+-- ==== The items of a geometry, with every choice that the format leaves free, and no other (TWKB,
+-- structure and description of types).
 
 -- A slot of a body: a count, an id, or a point with its absolute coordinates.
 pub data Slot : Type 0 where
@@ -180,3 +184,35 @@ abbrev mutual
   pub ItemsOfAll : ℕ → Trees → List Item → Type 0
   ItemsOfAll level end is = is ≡ []
   ItemsOfAll level (g ▷ gs) is = Follow (Items level g) (ItemsOfAll level gs) is
+
+-- ==== Blobs, and streams of them.
+
+-- At a geometry's end, a declared size is the number of bytes that came (TWKB, size).
+abbrev pub IsExact : Role → Type 0
+IsExact (End (Some n) came) = n ≡ came
+IsExact _ = ⊤
+
+-- Each declared size is exact, for every geometry that ends among these items.
+abbrev pub AreExact : List Item → Type 0
+AreExact is = AllByRecursion (λ i. IsExact i.role) is
+
+-- The bytes are a blob of this geometry: they spell some items of it, with exact sizes (TWKB,
+-- structure; profile: within the limits).
+pub record Blob (limits : Allowance) (bytes : List ℕ) (g : Tree) : Type 0 where
+  pub valid : IsValid limits g
+  pub items : List Item
+  pub are_items : Items 0 g items
+  pub exact : AreExact items
+  pub spelled : join items ≡ bytes
+
+-- A blob of this geometry is at the start of the bytes, and `rest` comes after it.
+pub record BlobInFront (limits : Allowance) (bytes : List ℕ) (g : Tree) (rest : List ℕ) : Type 0 where
+  pub front : List ℕ
+  pub whole : bytes ≡ front ++ rest
+  pub blob : Blob limits front g
+
+-- The bytes are blobs of these geometries, one after another, and nothing else (profile).
+abbrev pub Stream : Allowance → List ℕ → List Tree → Type 0
+Stream limits bytes [] = bytes ≡ []
+Stream limits bytes (g ∷ gs) = (front rest : List ℕ) × (bytes ≡ front ++ rest) × Blob limits front g
+    × Stream limits rest gs

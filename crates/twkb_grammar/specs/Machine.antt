@@ -4,14 +4,13 @@
 -- items of geometries and their prefixes, and nothing else.
 use Rattle.std.specs.Prelude.{◌≡◌, ℕ, zero, suc, ◌+◌, ◌-◌, ◌/◌, ◌%◌, if◌then◌else◌, List, [], ◌∷◌}
 use Rattle.std.specs.Prelude.{◌++◌, length, ℤ, Option, Some, None}
-use Rattle.twkb_num.specs.Zigzag.{unzigzag_of}
+use Rattle.twkb_num.specs.Spelling.{unzigzag_of}
 use Rattle.twkb_points.specs.Point.{Point, origin}
 use Rattle.twkb_tree.specs.Tree.{Simple, point, line, polygon, multi_point, multi_line}
 use Rattle.twkb_tree.specs.Tree.{multi_polygon, Tree, simple, collection, Trees, end, ◌▷◌, Ids}
 use Rattle.twkb_grammar.specs.Bits.{bit}
-use Rattle.twkb_grammar.specs.Roles.{Counted, Vertices, Rings, Points, Components, Geometries, Role}
-use Rattle.twkb_grammar.specs.Roles.{Header, Metadata, Extended, Size, Box, Count, Id, X, Y, End}
-use Rattle.twkb_grammar.specs.Roles.{Item, IsItem, where_set}
+use Rattle.twkb_grammar.specs.Roles.{Counted, Vertices, Rings, Points, Components, Geometries, Role, Header, Metadata}
+use Rattle.twkb_grammar.specs.Roles.{Extended, Size, Box, Count, Id, X, Y, End, Item, IsItem, where_set}
 use Rattle.twkb_grammar.specs.Fault.{nodes_by, points_by, moved}
 
 -- A point, a list of points, a list of such lists, and so on.

@@ -1,6 +1,13 @@
 -- Items: the parts of a blob, each a single byte, or a number in one of its spellings.
-use Rattle.std.specs.Prelude.{◌≡◌, ℕ, ◌<◌, ◌%◌, Bool, if◌then◌else◌, List, [], ◌∷◌, Option, flat_map, ⊤}
+use Rattle.std.specs.Prelude.{◌≡◌, ℕ, ◌<◌, ◌%◌, Bool, if◌then◌else◌, List, [], ◌∷◌, Option, flat_map, ⊤, ◌+◌, ◌^◌}
+use Rattle.std.specs.Prelude.{◌*◌, ℤ, not, ◌||◌, nat_eq, nat_lt}
 use Rattle.twkb_num.specs.Varint.{IsVarint}
+use Rattle.twkb_grammar.specs.declared.metadata.MetadataFlags.{MetadataFlags}
+use Rattle.twkb_num.specs.Spelling.{zigzag_of}
+use Rattle.twkb_tree.specs.declared.kind.Kind.{Kind}
+use Rattle.twkb_tree.specs.declared.kind.Kind.TheVariants as kind
+
+-- ==== Items: the parts of a blob, each a single byte, or a number in one of its spellings.
 
 -- What a count counts (TWKB, description of types: npoints, nrings, and the counts of multi types
 -- and collections).
@@ -97,3 +104,34 @@ where_set b roles = if b then roles else []
 -- The item of one byte.
 abbrev pub item : Role → ℕ → Item
 item role n = record { role = role; number = n; bytes = n ∷ [] }
+
+-- ==== The metadata byte (TWKB, metadata header).
+
+-- the value of bit k if it is set; bit 0 is the lowest
+abbrev pub bit_value : Bool → ℕ → ℕ
+bit_value b k = if b then 2 ^ k else 0
+
+-- the metadata byte: bits 0, 1, 2 and 4 (TWKB, metadata header)
+abbrev pub metadata_number : MetadataFlags → ℕ
+metadata_number f = bit_value f.has_box 0 + bit_value f.has_size 1 + bit_value f.has_ids 2 + bit_value f.is_empty 4
+
+-- ==== The type byte (TWKB, type and precision).
+
+-- the number of a type (TWKB, type and precision); 0 for a ring, which has none
+abbrev pub type_of : Kind → ℕ
+type_of kind.Ring = 0
+type_of kind.Point = 1
+type_of kind.Linestring = 2
+type_of kind.Polygon = 3
+type_of kind.MultiPoint = 4
+type_of kind.MultiLinestring = 5
+type_of kind.MultiPolygon = 6
+type_of kind.Collection = 7
+
+-- the type byte: the type, and four bits of the precision's zigzag form (TWKB, type and precision)
+abbrev pub type_byte : Kind → ℤ → ℕ
+type_byte k p = type_of k + 16 * (zigzag_of p % 16)
+
+-- the lower half is the number of a type: 1 to 7
+abbrev pub names_type : ℕ → Bool
+names_type byte = not (nat_eq (byte % 16) 0 || nat_lt 7 (byte % 16))

@@ -2,15 +2,15 @@
 -- box covers: profile).
 use Rattle.std.specs.Prelude.{ℕ, ◌+◌, Bool, true, false, not, ◌&&◌, if◌then◌else◌, List, [], ◌∷◌}
 use Rattle.std.specs.Prelude.{◌++◌, length, flat_map}
-use Rattle.twkb_num.specs.Zigzag.{zigzag_of}
+use Rattle.twkb_num.specs.Spelling.{zigzag_of}
 use Rattle.twkb_num.specs.Varint.{varint_of}
 use Rattle.twkb_points.specs.Extent.{tight}
 use Rattle.twkb_tree.specs.Tree.{point, line, polygon, multi_point, multi_line, multi_polygon, Tree}
 use Rattle.twkb_tree.specs.Tree.{simple, collection, Trees, end, ◌▷◌, count, flat, precision_of}
-use Rattle.twkb_tree.specs.Uniform.{uniform}
+use Rattle.twkb_tree.specs.Limits.{uniform}
 use Rattle.twkb_grammar.specs.Roles.{Count, Geometries, Field}
-use Rattle.twkb_grammar.specs.Items.{fields, id_fields, kind_of, header_byte, Flags, MustBeEmpty}
-use Rattle.twkb_grammar.specs.Items.{MayBeEmpty, HasBody, HasMembers, flags, flags_all}
+use Rattle.twkb_grammar.specs.Items.{fields, id_fields, kind_of, header_byte, Flags, MustBeEmpty, MayBeEmpty, HasBody}
+use Rattle.twkb_grammar.specs.Items.{HasMembers, flags, flags_all}
 use Rattle.twkb_grammar.specs.declared.style.Style.{Style}
 use Rattle.twkb_grammar.specs.declared.style.Style.TheVariants.{Full, Plain}
 

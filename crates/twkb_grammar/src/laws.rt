@@ -6,17 +6,16 @@ ghost use Rattle.twkb_tree.specs.Limits.{Allowance, IsAllowance, IsValid};
 ghost use Rattle.twkb_grammar.specs.declared.style.Style.{Style};
 ghost use Rattle.twkb_grammar.specs.Bits.{AreBytes};
 ghost use Rattle.twkb_grammar.specs.Roles.{Item, Role, HasBytes};
-ghost use Rattle.twkb_grammar.specs.Items.{Items};
-ghost use Rattle.twkb_grammar.specs.Blob.{Blob, BlobInFront, Stream};
+ghost use Rattle.twkb_grammar.specs.Items.{Items, Blob, BlobInFront, Stream};
 ghost use Rattle.twkb_grammar.specs.Written.{canonical_blob, canonical_stream};
 ghost use Rattle.twkb_grammar.specs.Fault.{Fault, FirstFault, StreamFault, Reason, Truncated};
 ghost use Rattle.twkb_grammar.specs.Fault.{BadVarint, Part, IsPart, IsCut, IsTooLong};
 ghost use Rattle.twkb_grammar.specs.Machine.{Runs, Sums, nothing, started, Finished, Stack, role_at, sums_after};
-ghost use Rattle.twkb_grammar.specs.PlainReader.{decode, objection, Made, RefusedAt, GoesOn};
-ghost use Rattle.twkb_grammar.specs.Spans.{spans_of_blob, moved_span, geometries, CoversBlob};
-ghost use Rattle.twkb_grammar.specs.Noting.{no_notes, noted, NotesGoOn, NotesEnd};
-ghost use Rattle.twkb_grammar.specs.Reading.{Ran, Reached, IsGiven, AtNumber, RefusalsAre, Leads};
-ghost use Rattle.twkb_grammar.specs.Reading.{Stands, IsSamePlace, frame_count, open_after};
+ghost use Rattle.twkb_grammar.specs.Reading.{decode, objection, Made, RefusedAt, GoesOn, Ran, Reached, IsGiven};
+ghost use Rattle.twkb_grammar.specs.Reading.{AtNumber, RefusalsAre, Leads, Stands, IsSamePlace, frame_count};
+ghost use Rattle.twkb_grammar.specs.Reading.{open_after};
+ghost use Rattle.twkb_grammar.specs.Noting.{spans_of_blob, moved_span, geometries, CoversBlob, no_notes, noted};
+ghost use Rattle.twkb_grammar.specs.Noting.{NotesGoOn, NotesEnd};
 
 /// In either style, the canonical blob of a valid geometry is a blob of it, with at most 100 bytes
 /// for each node and 20 for each point. The canonical stream of valid geometries is a stream of

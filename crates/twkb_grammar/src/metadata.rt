@@ -2,7 +2,7 @@
 //! (TWKB, metadata header).
 ghost use Rattle.std.specs.Prelude.{◌≡◌, ℕ, ◌<◌, ◌≤◌, ◌^◌, false};
 ghost use Rattle.twkb_grammar.specs.Bits.{bit};
-ghost use Rattle.twkb_grammar.specs.Metadata.{bit_value, metadata_number};
+ghost use Rattle.twkb_grammar.specs.Roles.{bit_value, metadata_number};
 
 use std::marker::Model;
 

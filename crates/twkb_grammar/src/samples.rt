@@ -1,7 +1,7 @@
 //! Samples of the definitions, checked by computation. The vectors are in docs/FORMATS.md.
 ghost use Rattle.std.specs.Prelude.{◌≡◌, [], ◌∷◌, take};
 ghost use Rattle.std.specs.List.{AllByRecursion};
-ghost use Rattle.twkb_grammar.specs.Blob.{Blob, Stream};
+ghost use Rattle.twkb_grammar.specs.Items.{Blob, Stream};
 ghost use Rattle.twkb_grammar.specs.Written.{canonical_blob};
 ghost use Rattle.twkb_grammar.specs.Fault.{FirstFault, StreamFault, Truncated, BadType};
 ghost use Rattle.twkb_grammar.specs.Fault.{ExtraDimensions, BadVarint, TooDeep, TooManyNodes};
@@ -18,7 +18,7 @@ ghost use Rattle.twkb_grammar.specs.Samples.{bare_collection, in_collections};
 ghost use Rattle.twkb_grammar.specs.declared.style.Style.TheVariants.{Full, Plain};
 
 /// The canonical blobs of some sample geometries in full style, byte by byte.
-#[tactic(auto, unfolding(twkb_num::specs::Digits::digits, twkb_num::specs::Digits::digits_within, twkb_points::specs::Extent::joined))]
+#[tactic(auto, unfolding(twkb_num::specs::Spelling::digits, twkb_num::specs::Spelling::digits_within, twkb_points::specs::Extent::joined))]
 pub fn full()
     ensures one_point { canonical_blob Full one_point ≡ 0x01 ∷ 0x02 ∷ 0x02 ∷ 0x04 ∷ 0x02 ∷ [] }
     ensures three_points { canonical_blob Full three_points ≡ three_points_blob }
@@ -48,7 +48,7 @@ pub fn full()
 {}
 
 /// The canonical blobs of some sample geometries in plain style, byte by byte.
-#[tactic(auto, unfolding(twkb_num::specs::Digits::digits, twkb_num::specs::Digits::digits_within))]
+#[tactic(auto, unfolding(twkb_num::specs::Spelling::digits, twkb_num::specs::Spelling::digits_within))]
 pub fn plain()
     ensures one_point { canonical_blob Plain one_point ≡ 0x01 ∷ 0x00 ∷ 0x04 ∷ 0x02 ∷ [] }
     ensures named_members { canonical_blob Plain named_members ≡ 0x07 ∷ 0x04 ∷ 0x02 ∷ 0x0E ∷ 0x01

@@ -1,12 +1,12 @@
 //! The type byte: the type in the lower half, the precision in the upper (TWKB, type and
 //! precision).
 ghost use Rattle.std.specs.Prelude.{◌≡◌, ◌≢◌, ◌<◌, ◌/◌, ◌%◌, nat_eq};
-ghost use Rattle.twkb_num.specs.Zigzag.{unzigzag_of};
+ghost use Rattle.twkb_num.specs.Spelling.{unzigzag_of};
 ghost use Rattle.twkb_tree.specs.Tree.{IsPrecision};
 ghost use Rattle.twkb_tree.specs.declared.kind.Kind.TheVariants.{Ring};
 ghost use Rattle.twkb_grammar.specs.Machine.{kind_at};
 ghost use Rattle.twkb_grammar.specs.Noting.{shown};
-ghost use Rattle.twkb_grammar.specs.TypeByte.{type_of, type_byte, names_type};
+ghost use Rattle.twkb_grammar.specs.Roles.{type_of, type_byte, names_type};
 
 use std::marker::Model;
 use twkb_num::zigzag;

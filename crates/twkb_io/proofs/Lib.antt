@@ -1,3 +1,2 @@
 -- Lemmas of the crate, by their topic.
-pub mod InputLemmas
-pub mod OutputLemmas
+pub mod DeviceLemmas

@@ -49,7 +49,7 @@ impl Bytes {
 
 impl Sink for Bytes {
     ghost use Rattle.twkb_io.specs.Bytes.{bytes_of};
-    ghost use Rattle.twkb_io.specs.SinkLaws.{lengths_within, lists_join};
+    ghost use Rattle.twkb_io.specs.Sinks.{lengths_within, lists_join};
     ghost use Rattle.std.proofs.Common.{sym, ap, ◌∙◌, length-append};
     ghost use Rattle.std.proofs.lemmas.List.{append-nil};
 

@@ -21,7 +21,7 @@ pub struct Count {
 pub struct CountFull;
 
 impl Count {
-    ghost use Rattle.twkb_io.specs.Counts.{total_of};
+    ghost use Rattle.twkb_io.specs.Bytes.{total_of};
 
     /// Makes a count at 0.
     pub fn new() -> Count
@@ -40,8 +40,8 @@ impl Count {
 }
 
 impl Sink for Count {
-    ghost use Rattle.twkb_io.specs.Counts.{total_of};
-    ghost use Rattle.twkb_io.specs.SinkLaws.{lengths_join, lengths_within};
+    ghost use Rattle.twkb_io.specs.Bytes.{total_of};
+    ghost use Rattle.twkb_io.specs.Sinks.{lengths_join, lengths_within};
     ghost use Rattle.std.proofs.Common.{sym, add-zero};
 
     type Fault = CountFull;

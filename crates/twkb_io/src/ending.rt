@@ -18,7 +18,7 @@ pub struct Ending<R: Read> {
 }
 
 impl<R: Read> Ending<R> {
-    ghost use Rattle.twkb_io.specs.Endings.{has_ended, under};
+    ghost use Rattle.twkb_io.specs.Taps.{has_ended, under};
 
     /// Wraps a reader whose end was not seen yet. Reads nothing.
     pub fn new(reader: R) -> Ending<R>
@@ -48,7 +48,7 @@ impl<R: Read> Ending<R> {
 }
 
 impl<R: Read> Read for Ending<R> {
-    ghost use Rattle.twkb_io.specs.Endings.{Ends, has_ended, under};
+    ghost use Rattle.twkb_io.specs.Taps.{Ends, has_ended, under};
 
     ghost remaining = { λ ending. R.remaining (under ending) };
 

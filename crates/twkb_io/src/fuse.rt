@@ -16,7 +16,7 @@ pub enum FuseEnd {
 }
 
 impl FuseEnd {
-    ghost use Rattle.twkb_io.specs.Fuses.{Dries};
+    ghost use Rattle.twkb_io.specs.Taps.{Dries};
 
     // The answer to a read or a write after the bytes of a fuse: an error, or that no byte was
     // moved.
@@ -43,7 +43,7 @@ pub struct Fuse<D> {
 }
 
 impl<D> Fuse<D> {
-    ghost use Rattle.twkb_io.specs.Fuses.{end_of, fails_flush, fuse_device, left_of, step_of};
+    ghost use Rattle.twkb_io.specs.Taps.{end_of, fails_flush, fuse_device, left_of, step_of};
 
     /// Makes a fuse that passes the first `bytes` bytes of its reads and writes, at most `step` in
     /// one call, and then answers each as `end` says. `step` must not be 0. A flush fails if
@@ -84,7 +84,7 @@ fn passing(length: usize, left: u64, step: usize) -> usize
 }
 
 impl<D: Read> Read for Fuse<D> {
-    ghost use Rattle.twkb_io.specs.Fuses.{Dries, KeepsSettings, end_of, fuse_device, left_of, moved, passed, step_of};
+    ghost use Rattle.twkb_io.specs.Taps.{Dries, KeepsSettings, end_of, fuse_device, left_of, moved, passed, step_of};
 
     ghost remaining = { λ fuse. passed (left_of fuse) (D.remaining (fuse_device fuse)) };
 
@@ -109,8 +109,8 @@ impl<D: Read> Read for Fuse<D> {
 }
 
 impl<D: Write> Write for Fuse<D> {
-    ghost use Rattle.twkb_io.specs.Fuses.{Dries, KeepsSettings, end_of, fails_flush, fuse_device};
-    ghost use Rattle.twkb_io.specs.Fuses.{left_of, moved, step_of};
+    ghost use Rattle.twkb_io.specs.Taps.{Dries, KeepsSettings, end_of, fails_flush, fuse_device, left_of, moved};
+    ghost use Rattle.twkb_io.specs.Taps.{step_of};
 
     ghost contents = { λ fuse. D.contents (fuse_device fuse) };
 

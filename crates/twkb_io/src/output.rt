@@ -132,7 +132,7 @@ impl<'a, W: Write> Output<'a, W> {
 impl<'a, W: Write> Sink for Output<'a, W> {
     ghost use Rattle.twkb_io.specs.Taps.{flushes_of, is_stuck};
     ghost use Rattle.twkb_io.specs.Outputs.{Cut, Took, is_device, is_of_stuck, is_spent, output_tap, sent_of};
-    ghost use Rattle.twkb_io.specs.OutputLaws.{cut_join, cut_within, took_join, took_nothing};
+    ghost use Rattle.twkb_io.specs.Outputs.{cut_join, cut_within, took_join, took_nothing};
 
     type Fault = OutFault;
 

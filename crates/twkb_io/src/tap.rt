@@ -22,8 +22,8 @@ pub struct Tap<D> {
 }
 
 impl<D> Tap<D> {
-    ghost use Rattle.twkb_io.specs.Taps.{bytes_given, calls_of, count_failure, device_of};
-    ghost use Rattle.twkb_io.specs.Taps.{failures_of, flushes_of, has_unflushed, is_stuck, one_call};
+    ghost use Rattle.twkb_io.specs.Taps.{bytes_given, calls_of, count_failure, device_of, failures_of, flushes_of};
+    ghost use Rattle.twkb_io.specs.Taps.{has_unflushed, is_stuck, one_call};
 
     /// Wraps a device, with all counts at 0.
     pub fn new(device: D) -> Tap<D>
@@ -99,8 +99,8 @@ impl<D> Tap<D> {
 }
 
 impl<D: Read> Read for Tap<D> {
-    ghost use Rattle.twkb_io.specs.Taps.{bytes_given, calls_of, count_failure, count_given};
-    ghost use Rattle.twkb_io.specs.Taps.{device_of, failures_of, one_call};
+    ghost use Rattle.twkb_io.specs.Taps.{bytes_given, calls_of, count_failure, count_given, device_of, failures_of};
+    ghost use Rattle.twkb_io.specs.Taps.{one_call};
 
     ghost remaining = { λ tap. D.remaining (device_of tap) };
 
@@ -122,9 +122,8 @@ impl<D: Read> Read for Tap<D> {
 }
 
 impl<D: Write> Write for Tap<D> {
-    ghost use Rattle.twkb_io.specs.Taps.{calls_of, count_failure, device_of, failures_of, flushes_of};
-    ghost use Rattle.twkb_io.specs.Taps.{has_unflushed, is_stuck, one_call, takes_none, takes_some};
-    ghost use Rattle.twkb_io.specs.Taps.{write_failed};
+    ghost use Rattle.twkb_io.specs.Taps.{calls_of, count_failure, device_of, failures_of, flushes_of, has_unflushed};
+    ghost use Rattle.twkb_io.specs.Taps.{is_stuck, one_call, takes_none, takes_some, write_failed};
 
     ghost contents = { λ tap. D.contents (device_of tap) };
 

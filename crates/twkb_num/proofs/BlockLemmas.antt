@@ -20,16 +20,13 @@ use Rattle.std.specs.Int.Count.{count_trailing_zeros, trailing_of_zero}
 use Rattle.std.specs.List.{prefix_len}
 use Rattle.std.proofs.Math.Nat.{pow-suc, pow-zero}
 use Rattle.std.proofs.Math.Seq.{drop-append-add}
-use Rattle.twkb_num.specs.Block.{units_in, AreUnits, AreEnds, AreMarks, AreEndsBefore, IsFault}
+use Rattle.twkb_num.specs.Block.{units_in, AreUnits, AreEnds, AreMarks, AreEndsBefore, IsFault, number_in_front}
+use Rattle.twkb_num.specs.Block.{run_of, first_and_last, eight_groups, AreMarked, AreTwoRuns}
 use Rattle.twkb_num.specs.declared.block.Marks.{Marks}
 use Rattle.twkb_num.specs.Alphabet.{five_unit}
-use Rattle.twkb_num.specs.Four.{number_in_front, run_of}
 use Rattle.twkb_num.specs.Spelling.{shortest}
-use Rattle.twkb_num.specs.WholeText.{first_and_last, eight_groups, AreMarked, AreTwoRuns}
-use Rattle.twkb_num.proofs.LaneLemmas.{lanes_are, wrapped_sub}
-use Rattle.twkb_num.proofs.MarkLemmas.{mask_l-drop, mask_l-take}
-use Rattle.twkb_num.proofs.FoundLemmas.{AreLanes}
-use Rattle.twkb_num.proofs.FoundLemmas.{marks_of, number_spelled}
+use Rattle.twkb_num.proofs.ZigzagLemmas.{lanes_are, wrapped_sub}
+use Rattle.twkb_num.proofs.FoundLemmas.{mask_l-drop, mask_l-take, AreLanes, marks_of, number_spelled}
 use Rattle.twkb_num.proofs.SpellingLemmas.{number_of-append}
 use Rattle.twkb_num.proofs.WordLemmas.{number_l-drop, number_l-take, Each1-drop, digits-number}
 use Rattle.twkb_num.proofs.WordLemmas.{Each1-append, groups_found, same_in_front}

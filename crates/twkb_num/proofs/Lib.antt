@@ -4,7 +4,5 @@ pub mod BlockLemmas
 pub mod SpellingLemmas
 pub mod WordLemmas
 pub mod FoundLemmas
-pub mod LaneLemmas
-pub mod SpelledLemmas
-pub mod MarkLemmas
 pub mod ZigzagLemmas
+pub mod SpelledLemmas

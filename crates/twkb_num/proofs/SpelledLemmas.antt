@@ -13,17 +13,16 @@ use Rattle.std.proofs.Math.Nat.{mod-eq_of_lt, div-eq_of_lt, pow-suc, pow-zero, o
 use Rattle.std.proofs.lemmas.Bool.{cases_lt, le-leb, lt-leb, lt-ltb, and_parts, eqb-true, ltb-true}
 use Rattle.std.proofs.lemmas.Nat.{div_below, mod_below}
 use Rattle.std.proofs.lemmas.Simd.{swz_l, SwzOk, SwzOk-from_Each1, Each1-all, tops_compared, zip2_splat_left}
-use Rattle.twkb_num.specs.Alphabet.{unit_over, leb_unit, IsRadix}
-use Rattle.twkb_num.specs.Shuffles.{units_within, lane_units, groups_after, marks_of_two, place_for, shuffle_of}
-use Rattle.twkb_num.specs.Shuffles.{AreSpelled}
+use Rattle.twkb_num.specs.Alphabet.{unit_over, leb_unit, IsRadix, leb_numbered}
+use Rattle.twkb_num.specs.Block.{units_within, lane_units, groups_after, marks_of_two, place_for, shuffle_of}
+use Rattle.twkb_num.specs.Block.{AreSpelled}
 use Rattle.twkb_num.specs.Spelling.{shortest}
 use Rattle.twkb_num.specs.declared.shuffles.TheConstants.{SHUFFLES}
 use Rattle.twkb_num.proofs.SpellingLemmas.{number_of-append, number_of-lt}
 use Rattle.twkb_num.proofs.WordLemmas.{Each1-append, digits-number, number_l-more}
 use Rattle.twkb_num.proofs.WordLemmas.{four_cases, lane, lanes_brought}
 use Rattle.twkb_num.proofs.SpellingLemmas.{shortest_one, shortest_more}
-use Rattle.twkb_num.specs.AlphabetLemmas.{leb_numbered}
-use Rattle.twkb_num.proofs.MarkLemmas.{mask_l-append}
+use Rattle.twkb_num.proofs.FoundLemmas.{mask_l-append}
 
 -- ==== The units of a number in a lane of four bytes, as the code adds them, are its shortest spelling.
 

@@ -11,8 +11,8 @@ use Rattle.std.proofs.lemmas.Bool.{lt-ltb, le-ltb, cases_lt, false≢true}
 use Rattle.std.specs.Int.Digits.{AllBelowBase}
 use Rattle.std.proofs.lemmas.List.{take_more_set, map-append, length-map, nil_from_length}
 use Rattle.std.specs.Prelude.{IsTrue, ◌↔◌}
-use Rattle.twkb_num.specs.Digits.{digits, digits_within, number_of, low_digits}
-use Rattle.twkb_num.specs.Spelling.{units_of, open_units, shortest, IsSpelling, IsOpen}
+use Rattle.twkb_num.specs.Spelling.{digits, digits_within, number_of, low_digits, units_of, open_units, shortest}
+use Rattle.twkb_num.specs.Spelling.{IsSpelling, IsOpen}
 use Rattle.twkb_num.specs.Alphabet.{AlphabetLaws}
 use Rattle.twkb_num.specs.Answer.{IsAbove}
 pub use Rattle.twkb_num.proofs.ZigzagLemmas.{zigzag_one}

@@ -13,14 +13,13 @@ use Rattle.std.specs.List.{AllByRecursion}
 use Rattle.std.proofs.Math.Nat.{mod-eq_of_lt, mul-le-mul_left, pow-le-pow_right, pow-suc, pow-zero}
 use Rattle.std.proofs.Math.Nat.{div-div-eq-div-mul, div-one}
 use Rattle.std.proofs.lemmas.Nat.{mod_below, leading_top, pow-add}
-use Rattle.twkb_num.specs.Alphabet.{AlphabetLaws, leb_unit, leb_group}
+use Rattle.twkb_num.specs.Alphabet.{AlphabetLaws, leb_unit, leb_group, leb_laws}
 use Rattle.twkb_num.specs.Answer.{IsAbove, IsAnswer}
-use Rattle.twkb_num.specs.Digits.{number_of, low_digits}
-use Rattle.twkb_num.specs.Spelling.{units_of, open_units, shortest, IsSpelling, IsOpen}
+use Rattle.twkb_num.specs.Spelling.{number_of, low_digits, units_of, open_units, shortest, IsSpelling, IsOpen}
 use Rattle.twkb_num.specs.declared.partial.Step.{Step}
 use Rattle.twkb_num.specs.declared.partial.Step.TheVariants.{More, Done, BadUnit, TooLong}
-use Rattle.twkb_num.specs.Varint.{HasMarks, seven_bit_sum, IsVarint, varint_of, IsOpenVarint}
-use Rattle.twkb_num.specs.AlphabetLemmas.{leb_laws}
+use Rattle.twkb_num.specs.Varint.{HasMarks, seven_bit_sum, IsVarint, varint_of, IsOpenVarint, four_lens, more_bytes}
+use Rattle.twkb_num.specs.Varint.{lanes_cap}
 use Rattle.twkb_num.proofs.SpellingLemmas.{base-le, AllBelowBase-push, number_of-lt, number_of-push, same_digits}
 use Rattle.twkb_num.proofs.SpellingLemmas.{spelling_one, shortest_spelling, power_fits, length-units_of}
 use Rattle.twkb_num.proofs.SpellingLemmas.{units_of-push, shortest_one, shortest_more}
@@ -28,7 +27,6 @@ use lib.Dec.{leb}
 use lib.Lanes.{top, zip2, sum_l, fold_l, put_chunk}
 use mathlib.Core.Bool.{cond}
 use Rattle.std.specs.Int.Count.{count_leading_zeros}
-use Rattle.twkb_num.specs.Lens.{four_lens, more_bytes, lanes_cap}
 use borrow.Rule.Slice.PartMut.{put_mid, mid_of, post_of}
 use Rattle.std.proofs.Math.Seq.{take-append-add}
 use Rattle.std.proofs.lemmas.Simd.{put_chunk_whole}

@@ -15,8 +15,7 @@ use Rattle.std.proofs.lemmas.List.{get_or-drop, get_or_past}
 use Rattle.std.proofs.lemmas.Simd.{Each1-from_get_or, Each1-chunk, Each1-weaker, swz_l, SwzOk, SwzOk-from_Each1}
 use Rattle.std.proofs.lemmas.Nat.{mod_below}
 use Rattle.twkb_num.specs.Alphabet.{IsRadix}
-use Rattle.twkb_num.specs.Four.{joined_groups, number_in_front, place_in, places_in}
-use Rattle.twkb_num.specs.WholeText.{eight_groups}
+use Rattle.twkb_num.specs.Block.{joined_groups, number_in_front, place_in, places_in, eight_groups}
 use Rattle.twkb_num.proofs.SpellingLemmas.{low_digit, high_digits, number_of-low_digits, number_of-lt, number_of-same}
 
 -- ==== Bytes as numbers, low first.

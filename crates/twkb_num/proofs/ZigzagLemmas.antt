@@ -1,16 +1,21 @@
--- The two zigzag functions undo each other, also for four forms at once.
+-- The two zigzag functions undo each other, and lanes of bytes are units less their base.
 use Rattle.std.proofs.Common.{◌≡◌, ℕ, ℤ, pos, negsuc, ◌+◌, ◌*◌, ◌/◌, ◌%◌, ◌<◌, ◌^◌, ◌-◌, suc, refl, ap, arith, zero}
 use Rattle.std.proofs.Common.{Bool, true, false, List, [], ◌∷◌, length, map, ◌∙◌, Fits, FitsSigned, w32, w64, eqb}
+use Rattle.std.proofs.Common.{◌≤◌, take, sym, w8, ltb}
 use Rattle.std.specs.Prelude.{nat_eq}
 use Rattle.std.proofs.lemmas.Int.{to_z-of_z}
-use Rattle.twkb_num.specs.Zigzag.{zigzag_of, unzigzag_of}
+use Rattle.twkb_num.specs.Spelling.{zigzag_of, unzigzag_of}
 use mir.Syntax.{Width}
 use mir.Val.{hbits}
-use lib.Lanes.{Each1, zip2, sel_l, top}
+use lib.Lanes.{Each1, zip2, sel_l, top, mask_l}
 use lib.ListN.{replicate}
 use mathlib.Core.Bool.{cond}
 use Rattle.std.specs.Int.{cast_signed, cast_unsigned}
-use Rattle.twkb_num.specs.Four.{unzigzagged_bits}
+use Rattle.twkb_num.specs.Block.{unzigzagged_bits, units_in}
+use Rattle.std.proofs.lemmas.List.{length-map, length-take-le}
+use Rattle.std.proofs.lemmas.Simd.{bitmask_splat, zip2_splat, zip2_splat_left}
+
+-- ==== The two zigzag functions undo each other, also for four forms at once.
 
 -- unzigzag undoes zigzag
 pub unzigzag_of-zigzag_of : (n : ℤ) → unzigzag_of (zigzag_of n) ≡ n
@@ -85,3 +90,30 @@ form_found n lane read wide small lane_is read_is wide_is =
     ap (λ z. zigzag_of (cast_signed w64 (cast_unsigned w64 z))) widened
     ∙ ap zigzag_of (to_z-of_z w64 (unzigzag_of n) (number_fits w64 n (omega arith)))
     ∙ zigzag_of-unzigzag_of n
+
+-- ==== Sixteen lanes of bytes as units less their base, and the masks of these lanes.
+
+-- one byte less another, modulo 256, as lanes compute it
+abbrev pub wrapped_sub : ℕ → ℕ → ℕ
+wrapped_sub a b = (a + (2 ^ 8 - b)) % 2 ^ 8
+
+-- the lanes less the base are the units
+pub lanes_are : (base : ℕ) (bytes : List ℕ) → 16 ≤ length bytes
+    → zip2 wrapped_sub (take 16 bytes) (replicate 16 base) ≡ units_in base (take 16 bytes)
+lanes_are base bytes long = zip2_splat wrapped_sub (take 16 bytes) 16 base (length-take-le 16 bytes long)
+
+-- there are sixteen lanes
+pub length-lanes : (base : ℕ) (bytes : List ℕ) → 16 ≤ length bytes
+    → length (zip2 wrapped_sub (take 16 bytes) (replicate 16 base)) ≡ 16
+length-lanes base bytes long = ap length (lanes_are base bytes long)
+    ∙ length-map (take 16 bytes) (λ b. wrapped_sub b base) ∙ length-take-le 16 bytes long
+
+-- `simd_gt` with its sides exchanged compares with a bound
+pub above_is : (us : List ℕ) (y : ℕ) → length us ≡ 16
+    → mask_l (map (top 7) (zip2 (λ a b. cond (ltb a b) (2 ^ 8 - 1) 0) (replicate 16 y) us)) % 2 ^ 64
+    ≡ mask_l (map (λ u. ltb y u) us)
+above_is us y long =
+    ap (λ lanes. mask_l (map (top 7) lanes) % 2 ^ 64)
+    (zip2_splat_left (λ a b. cond (ltb a b) (2 ^ 8 - 1) 0) y 16 us long
+    ∙ sym (zip2_splat (λ a b. cond (ltb b a) (2 ^ 8 - 1) 0) us 16 y long))
+    ∙ bitmask_splat w8 (λ a b. ltb b a) us 16 y long (omega arith)

@@ -2,8 +2,7 @@
 use Rattle.std.specs.Prelude.{◌≡◌, ℕ, ◌+◌, ◌<◌, ◌≤◌, ◌^◌, ◌↔◌, ◌⊎◌, Bool, true, IsTrue, Option}
 use Rattle.std.specs.Prelude.{Some, None, List, [], ◌∷◌, ◌++◌, length}
 use Rattle.std.specs.Int.Digits.{AllBelowBase}
-use Rattle.twkb_num.specs.Digits.{number_of}
-use Rattle.twkb_num.specs.Spelling.{units_of, shortest, IsSpelling}
+use Rattle.twkb_num.specs.Spelling.{number_of, units_of, shortest, IsSpelling}
 use Rattle.twkb_num.specs.declared.partial.Step.{Step}
 use Rattle.twkb_num.specs.declared.partial.Step.TheVariants.{More, Done, BadUnit, TooLong}
 

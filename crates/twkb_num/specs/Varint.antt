@@ -1,8 +1,10 @@
--- Varints in the words of their specification (TWKB specification; LEB128).
-use Rattle.std.specs.Prelude.{◌≡◌, ℕ, ◌+◌, ◌*◌, ◌%◌, ◌<◌, ◌≤◌, ◌^◌, List, [], ◌∷◌, length}
+-- Varints in the words of their specification (TWKB specification; LEB128), and the length of four.
+use Rattle.std.specs.Prelude.{◌≡◌, ℕ, ◌+◌, ◌*◌, ◌%◌, ◌<◌, ◌≤◌, ◌^◌, List, [], ◌∷◌, length, ◌-◌}
 use Rattle.std.specs.List.{AllByRecursion}
 use Rattle.twkb_num.specs.Alphabet.{leb_unit}
 use Rattle.twkb_num.specs.Spelling.{shortest}
+
+-- ==== Varints in the words of their specification (TWKB specification; LEB128).
 
 -- each byte but the last has its top bit set, and the last does not
 abbrev pub HasMarks : List ℕ → Type 0
@@ -32,3 +34,17 @@ pub record IsOpenVarint (bytes : List ℕ) : Type 0 where
   pub high : AllByRecursion (λ b. 128 ≤ b) bytes
   pub below : AllByRecursion (λ b. b < 256) bytes
   pub room : length bytes ≤ 9
+
+-- ==== The total length of four varints.
+
+-- how many bytes the shortest varint of a number has after its first
+abbrev pub more_bytes : ℕ → ℕ
+more_bytes n = length (varint_of n) - 1
+
+-- the bytes of the shortest varints of four numbers
+abbrev pub four_lens : ℕ → ℕ → ℕ → ℕ → ℕ
+four_lens a b c d = length (varint_of a) + length (varint_of b) + (length (varint_of c) + length (varint_of d))
+
+-- the greatest sum of lengths to which four more may be added, so that no lane of 32 bits overflows
+abbrev pub lanes_cap : ℕ
+lanes_cap = 2 ^ 31

@@ -8,8 +8,7 @@
 ghost use Rattle.std.specs.Prelude.{IfSome, ◌≡◌, ◌^◌, ◌⊎◌, ◌/◌, ◌≤◌, length, drop, map};
 ghost use lib.Lanes.{digits_l, number_l};
 ghost use Rattle.twkb_num.specs.Alphabet.{unit_over, IsRadix};
-ghost use Rattle.twkb_num.specs.Four.{SignedInFront, joined_groups, unzigzagged_bits};
-ghost use Rattle.twkb_num.specs.Block.{AreEnds};
+ghost use Rattle.twkb_num.specs.Block.{SignedInFront, joined_groups, unzigzagged_bits, AreEnds};
 
 use crate::alphabet::Alphabet;
 use crate::block::few_ends;

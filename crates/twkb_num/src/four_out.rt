@@ -4,7 +4,7 @@
 //! gaps.
 ghost use Rattle.std.specs.Prelude.{◌≡◌, ◌≤◌, ◌<◌, ◌+◌, ◌++◌, ◌*◌, ◌^◌};
 ghost use Rattle.twkb_num.specs.Alphabet.{five_unit, leb_unit, unit_over, IsRadix};
-ghost use Rattle.twkb_num.specs.Shuffles.{lane_units, AreSpelled};
+ghost use Rattle.twkb_num.specs.Block.{lane_units, AreSpelled};
 
 use crate::alphabet::{Alphabet, POLYLINES, VARINTS};
 use crate::shuffles::shuffle;

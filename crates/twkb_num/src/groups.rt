@@ -1,9 +1,9 @@
 //! Alphabets, in which numbers are spelled by groups of bits.
 ghost use Rattle.std.specs.Prelude.{◌≡◌, ℕ, ◌<◌, ◌^◌, Bool, Option};
 ghost use Rattle.twkb_num.specs.Alphabet.{AlphabetLaws, IsNumbered, leb_unit, leb_group, five_unit, five_group};
+ghost use Rattle.twkb_num.specs.Alphabet.{leb_laws, leb_numbered, five_laws, five_numbered};
 ghost use Rattle.twkb_num.specs.declared.alphabet.Alphabet.{Alphabet};
 ghost use Rattle.twkb_num.specs.declared.alphabet.TheConstants.{POLYLINES, VARINTS};
-ghost use Rattle.twkb_num.specs.AlphabetLemmas.{leb_laws, leb_numbered, five_laws, five_numbered};
 
 use crate::alphabet::{
     Alphabet, CHARACTER_BITS, FIRST_CHARACTER, FIRST_OPEN, GOES_ON, LAST_CHARACTER, LAST_END,

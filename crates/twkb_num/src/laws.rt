@@ -3,9 +3,8 @@ ghost use Rattle.std.specs.Prelude.{◌≡◌, ℕ, ℤ, negsuc, ◌-◌, ◌<�
 ghost use Rattle.std.specs.Prelude.{◌++◌, List, length, codes};
 ghost use Rattle.twkb_num.specs.Alphabet.{leb_unit, leb_group, five_unit};
 ghost use Rattle.twkb_num.specs.Answer.{IsAnswer, IsRefused};
-ghost use Rattle.twkb_num.specs.Spelling.{IsSpelling, IsOpen, shortest};
+ghost use Rattle.twkb_num.specs.Spelling.{IsSpelling, IsOpen, shortest, zigzag_of, unzigzag_of};
 ghost use Rattle.twkb_num.specs.Varint.{IsVarint, IsOpenVarint, varint_of};
-ghost use Rattle.twkb_num.specs.Zigzag.{zigzag_of, unzigzag_of};
 ghost use Rattle.twkb_num.specs.declared.partial.Step.{Step};
 ghost use Rattle.twkb_num.specs.declared.partial.Step.TheVariants.{More, Done, TooLong};
 
@@ -89,7 +88,7 @@ pub fn long_varints()
 /// Checks by computation that numbers of the public documents have the forms and spellings printed
 /// there: 300 is a varint of Protocol Buffers, 624485 one of LEB128, and -17998321 the example of
 /// the Encoded Polyline Algorithm Format. The varint of 2^64 - 1 has ten bytes.
-#[tactic(auto, unfolding(crate::specs::Digits::digits, crate::specs::Digits::digits_within))]
+#[tactic(auto, unfolding(crate::specs::Spelling::digits, crate::specs::Spelling::digits_within))]
 pub fn samples()
     ensures zigzag { zigzag_of (negsuc 17998320) ≡ 35996641 }
     ensures three_hundred { varint_of 300 ≡ 0xAC ∷ 0x02 ∷ [] }

@@ -17,8 +17,7 @@ pub struct Partial<G: Groups> {
 
 impl<G: Groups> Model for Partial<G> {
     ghost use Rattle.std.specs.Prelude.{ℕ, ◌<◌, ◌^◌, List};
-    ghost use Rattle.twkb_num.specs.Digits.{low_digits};
-    ghost use Rattle.twkb_num.specs.Spelling.{open_units};
+    ghost use Rattle.twkb_num.specs.Spelling.{low_digits, open_units};
 
     ghost Value = { List ℕ };
 

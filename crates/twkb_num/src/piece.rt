@@ -1,8 +1,7 @@
 //! A small buffer on the stack, for bytes on their way to a text.
 ghost use Rattle.std.specs.Prelude.{◌≡◌, ◌↔◌, ◌≤◌, ◌<◌, ◌+◌, ◌^◌, ◌++◌, [], ◌∷◌, IsTrue, length, take};
 ghost use Rattle.twkb_num.specs.Alphabet.{five_unit};
-ghost use Rattle.twkb_num.specs.Digits.{low_digits};
-ghost use Rattle.twkb_num.specs.Spelling.{shortest};
+ghost use Rattle.twkb_num.specs.Spelling.{low_digits, shortest};
 ghost use Rattle.twkb_num.specs.Varint.{varint_of};
 
 use crate::four_out::{as_characters, as_varints};

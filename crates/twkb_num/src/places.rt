@@ -1,7 +1,7 @@
 //! The places of the units of two numbers, looked up by the units that end a number.
 ghost use Rattle.std.specs.Prelude.{IfSome, ◌≡◌, List, Bool};
 ghost use lib.Lanes.{mask_l};
-ghost use Rattle.twkb_num.specs.Places.{AreTwo};
+ghost use Rattle.twkb_num.specs.Block.{AreTwo};
 
 // The places of the units of the first two numbers, a byte for each place and four for each
 // number, and how many units the two have.

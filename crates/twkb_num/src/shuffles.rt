@@ -1,7 +1,7 @@
 //! The shuffle that moves the units of two numbers next to each other.
 ghost use Rattle.std.specs.Prelude.{◌≡◌, ◌≤◌, ◌<◌, ℕ};
 ghost use lib.Lanes.{number_l};
-ghost use Rattle.twkb_num.specs.Shuffles.{marks_of_two, shuffle_of};
+ghost use Rattle.twkb_num.specs.Block.{marks_of_two, shuffle_of};
 
 // The places from which eight bytes take the units of two numbers, so that these follow one
 // another; 0x80 for each byte after the last. Places are bytes, low first. `marks`, below 256, has

@@ -1,6 +1,6 @@
 //! Signed numbers as unsigned ones, by zigzag.
 ghost use Rattle.std.specs.Prelude.{◌≡◌};
-ghost use Rattle.twkb_num.specs.Zigzag.{zigzag_of};
+ghost use Rattle.twkb_num.specs.Spelling.{zigzag_of};
 
 /// The zigzag form of a number n: 2n from 0 up, and -2n - 1 below, so that numbers near 0 have
 /// small forms (TWKB specification; Encoded Polyline Algorithm Format). Takes no memory.

@@ -1,6 +1,6 @@
 //! Lengths of varints, counted four at once with no branch on their lengths.
 ghost use Rattle.std.specs.Prelude.{◌≡◌, ◌≤◌, ◌<◌, ◌+◌, ◌^◌, [], ◌∷◌, length};
-ghost use Rattle.twkb_num.specs.Lens.{four_lens, more_bytes, lanes_cap};
+ghost use Rattle.twkb_num.specs.Varint.{four_lens, more_bytes, lanes_cap};
 
 use crate::varint::{FIVE_BYTES, FOUR_BYTES, THREE_BYTES, TWO_BYTES, varint_len};
 use std::marker::Model;

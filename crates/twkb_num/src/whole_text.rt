@@ -2,10 +2,8 @@
 ghost use Rattle.std.specs.Prelude.{IfSome, ◌≡◌, ◌+◌, ◌≤◌, ◌<◌, ◌^◌, ◌++◌, length, take, Bool, List};
 ghost use lib.Lanes.{mask_l};
 ghost use Rattle.twkb_num.specs.Alphabet.{five_unit};
-ghost use Rattle.twkb_num.specs.Block.{units_in};
-ghost use Rattle.twkb_num.specs.Spelling.{shortest};
-ghost use Rattle.twkb_num.specs.WholeText.{first_and_last, eight_groups, AreMarked, AreTwoRuns};
-ghost use Rattle.twkb_num.specs.Zigzag.{zigzag_of};
+ghost use Rattle.twkb_num.specs.Block.{units_in, first_and_last, eight_groups, AreMarked, AreTwoRuns};
+ghost use Rattle.twkb_num.specs.Spelling.{shortest, zigzag_of};
 
 use crate::alphabet::{FIRST_OPEN, POLYLINES};
 use crate::four::joined;

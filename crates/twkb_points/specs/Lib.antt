@@ -1,7 +1,4 @@
 -- The definitions of the crate, by their topic.
-pub mod Differences
-pub mod Extent
-pub mod Near
-pub mod Point
 pub mod Steps
-pub mod Boxes
+pub mod Extent
+pub mod Point

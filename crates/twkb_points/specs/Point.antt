@@ -1,7 +1,9 @@
--- Points of whole numbers, and the range of their coordinates.
-use Rattle.std.specs.Prelude.{◌-◌, ℤ, pos, negsuc, ◌+ℤ◌, ◌≤ℤ◌, List}
+-- Points of whole numbers, the range of their coordinates, and points that short steps can reach.
+use Rattle.std.specs.Prelude.{◌-◌, ℤ, pos, negsuc, ◌+ℤ◌, ◌≤ℤ◌, List, ℕ, ◌+◌, ◌*◌, ◌^◌}
 use Rattle.std.specs.List.{AllByRecursion}
 use Rattle.twkb_points.specs.declared.point.TheConstants.{COORDINATE_BOUND, INNER_BOUND}
+
+-- ==== Points of whole numbers, and the range of their coordinates.
 
 -- a point of two whole numbers, x before y as in TWKB
 pub record Point : Type 0 where
@@ -42,3 +44,18 @@ IsInner p = IsInnerCoordinate p.x × IsInnerCoordinate p.y
 -- each point of a list is in range
 abbrev pub AreInRange : List Point → Type 0
 AreInRange ps = AllByRecursion IsInRange ps
+
+-- ==== Points that a number of short steps can reach from an inner point.
+
+-- a short step is from -2 ^ 27 to 2 ^ 27 - 1, so its zigzag form is below 2 ^ 28
+abbrev pub IsShortStep : ℤ → Type 0
+IsShortStep d = (negsuc (2 ^ 27 - 1) ≤ℤ d) × (d ≤ℤ pos (2 ^ 27 - 1))
+
+-- a coordinate that n short steps can reach from an inner one: at most n times 2 ^ 27 outside the
+-- range of inner coordinates
+abbrev pub IsNearCoordinate : ℕ → ℤ → Type 0
+IsNearCoordinate n x = (negsuc (INNER_BOUND - 1 + n * 2 ^ 27) ≤ℤ x) × (x ≤ℤ pos (INNER_BOUND - 1 + n * 2 ^ 27))
+
+-- a point that n short steps can reach from an inner point
+abbrev pub IsNear : ℕ → Point → Type 0
+IsNear n p = IsNearCoordinate n p.x × IsNearCoordinate n p.y

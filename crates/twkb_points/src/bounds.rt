@@ -98,7 +98,7 @@ impl Bounds {
     }
 
     /// Widens the bounds as little as they need to hold a point. Takes no memory.
-    #[tactic(auto, using(crate::proofs::ExtentLemmas::extents))]
+    #[tactic(auto, using(crate::proofs::PointLemmas::extents))]
     pub fn include(&mut self, point: Pt)
         ensures value { self.new ≡ joined self.old (extent_of point) }
         ensures stands { (ps : List Point) → extent ps ≡ Some self.old → extent (ps ++ point ∷ []) ≡ Some self.new }

@@ -1,7 +1,7 @@
 //! Lists of points as differences, and back.
 ghost use Rattle.std.specs.Prelude.{◌≡◌, ◌≤◌, ◌++◌, List, length, take, drop, slice_get};
 ghost use Rattle.twkb_points.specs.Point.{Point, IsInRange, AreInRange};
-ghost use Rattle.twkb_points.specs.Differences.{differences, points_of};
+ghost use Rattle.twkb_points.specs.Steps.{differences, points_of};
 
 use crate::cursor::Cursor;
 use crate::point::Pt;

@@ -1,7 +1,7 @@
 //! Points whose numbers are complete at the start of bytes, two and eight at a time.
 ghost use Rattle.std.specs.Prelude.{◌≡◌, ℕ, ◌+◌, ◌≤◌, ◌/◌, ◌^◌, [], ◌∷◌, IfSome, length, drop};
 ghost use Rattle.twkb_num.specs.Block.{AreEnds};
-ghost use Rattle.twkb_points.specs.Near.{IsNear};
+ghost use Rattle.twkb_points.specs.Point.{IsNear};
 ghost use Rattle.twkb_points.specs.Steps.{AreStepsTo, last_of};
 
 use crate::point::Pt;

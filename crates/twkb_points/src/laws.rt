@@ -1,9 +1,8 @@
 //! Laws of differences and extents, each stated as the contract of an empty function.
 ghost use Rattle.std.specs.Prelude.{◌≡◌, ◌↔◌, ℤ, List, [], ◌∷◌, ◌++◌};
 ghost use Rattle.twkb_points.specs.Point.{Point};
-ghost use Rattle.twkb_points.specs.Differences.{differences, points_of, AreDifferences};
-ghost use Rattle.twkb_points.specs.Extent.{Extent, joined, joined_options, extent, tight};
-ghost use Rattle.twkb_points.specs.Boxes.{IsExtentOf, IsBox};
+ghost use Rattle.twkb_points.specs.Steps.{differences, points_of, AreDifferences};
+ghost use Rattle.twkb_points.specs.Extent.{Extent, joined, joined_options, extent, tight, IsExtentOf, IsBox};
 
 /// Pairs of numbers are the differences of a list of points exactly if, place by place, they are
 /// its first point, and then each point less the one before it (TWKB; Encoded Polyline Algorithm

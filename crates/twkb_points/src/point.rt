@@ -1,7 +1,7 @@
 //! A point with coordinates in range.
 ghost use Rattle.std.specs.Prelude.{◌≡◌, ◌↔◌, ◌+ℤ◌, IsTrue, IsSome, IfSome};
-ghost use Rattle.twkb_points.specs.Point.{IsCoordinate, IsInRange, IsInnerCoordinate, IsInner};
-ghost use Rattle.twkb_points.specs.Point.{point_at, origin, moved_by};
+ghost use Rattle.twkb_points.specs.Point.{IsCoordinate, IsInRange, IsInnerCoordinate, IsInner, point_at, origin};
+ghost use Rattle.twkb_points.specs.Point.{moved_by};
 
 use std::marker::Model;
 

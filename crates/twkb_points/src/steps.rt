@@ -1,6 +1,6 @@
 //! Codes of points, each of which is spelled by its step from the point before it.
 ghost use Rattle.std.specs.Prelude.{◌≡◌, ℕ, ℤ, List};
-ghost use Rattle.twkb_num.specs.Four.{SignedInFront};
+ghost use Rattle.twkb_num.specs.Block.{SignedInFront};
 ghost use Rattle.twkb_points.specs.Steps.{TwoInFront, varint_step, character_step};
 
 use twkb_num::{Five, Four, Leb128, Numbered};

@@ -54,7 +54,7 @@ pub trait PointTail {
 
 // Appends all points of a list to a vector, which must have room for them. Takes no memory.
 #[inline(always)]
-#[tactic(auto, using(crate::proofs::StepLemmas::put_more))]
+#[tactic(auto, using(crate::proofs::PointLemmas::put_more))]
 fn put_list<S: PointList>(points: &mut Vec<Pt>, list: &S)
     requires { vec_len points.old + length (S.points list.now) ≤ vec_capacity points.old }
     ensures { points.new.items ≡ points.old.items ++ S.points list.now }

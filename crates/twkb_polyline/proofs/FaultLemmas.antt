@@ -6,10 +6,8 @@ use Rattle.std.specs.Prelude.{Some, None}
 use Rattle.std.proofs.lemmas.Int.{ints}
 use Rattle.std.proofs.lemmas.List.{append_cancel_left}
 use Rattle.std.proofs.lemmas.Bool.{cases_lt}
-use Rattle.twkb_num.specs.AlphabetLemmas.{five_laws}
-use Rattle.twkb_num.specs.Alphabet.{five_unit}
-use Rattle.twkb_num.specs.Digits.{digits, number_of}
-use Rattle.twkb_num.specs.Zigzag.{zigzag_of}
+use Rattle.twkb_num.specs.Alphabet.{five_laws, five_unit}
+use Rattle.twkb_num.specs.Spelling.{digits, number_of, zigzag_of}
 use Rattle.twkb_num.proofs.SpellingLemmas.{zigzag_one, same_digits, digits_below, number_of-digits, length-units_of}
 use Rattle.twkb_num.proofs.SpellingLemmas.{digits_some}
 use Rattle.twkb_points.specs.Point.{Point, IsCoordinate, IsInRange, AreInRange, origin, point_at}

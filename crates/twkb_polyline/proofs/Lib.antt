@@ -1,5 +1,3 @@
 pub mod NumberLemmas
-pub mod DecodeLemmas
-pub mod EncodeLemmas
+pub mod TextLemmas
 pub mod FaultLemmas
-pub mod ShortTexts

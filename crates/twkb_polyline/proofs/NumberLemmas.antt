@@ -9,13 +9,11 @@ use Rattle.std.specs.Prelude.{Some, None, Option, nat_lt, if◌then◌else◌}
 use Rattle.std.proofs.Math.Nat.{pow-le-pow_right, mul_comm}
 use Rattle.std.proofs.lemmas.Bool.{cases_lt}
 use Rattle.std.proofs.lemmas.List.{length-map, same_from_push, nil_from_length, drop_all, drop_more, map-append}
-use Rattle.twkb_num.specs.Alphabet.{five_unit, five_group}
-use Rattle.twkb_num.specs.Spelling.{open_units, units_of, shortest, IsSpelling}
-use Rattle.twkb_num.specs.Digits.{digits, number_of}
+use Rattle.twkb_num.specs.Alphabet.{five_unit, five_group, five_laws}
+use Rattle.twkb_num.specs.Spelling.{open_units, units_of, shortest, IsSpelling, digits, number_of, zigzag_of}
+use Rattle.twkb_num.specs.Spelling.{unzigzag_of}
 use Rattle.twkb_num.specs.Answer.{IsAbove, IsAnswer}
-use Rattle.twkb_num.specs.Zigzag.{zigzag_of, unzigzag_of}
 use Rattle.twkb_num.specs.declared.partial.Step.TheVariants as step
-use Rattle.twkb_num.specs.AlphabetLemmas.{five_laws}
 use Rattle.twkb_num.proofs.SpellingLemmas.{shortest_by_last, last_digit_above}
 use Rattle.twkb_num.proofs.SpellingLemmas.{number_of-lt, number_of-push, units_of-push, length-units_of}
 use Rattle.twkb_num.proofs.SpellingLemmas.{AllBelowBase-push, shortest_spelling, digits_below, number_of-digits}

@@ -1,15 +1,19 @@
 -- Where and why a text is refused (characters: Encoded Polyline Algorithm Format; reasons and order: profile).
-use Rattle.std.specs.Prelude.{◌≡◌, ◌≢◌, ℕ, ℤ, ◌+◌, ◌-◌, ◌<◌, ◌≤◌, ◌^◌, ◌+ℤ◌, ◌⊎◌, List, [], ◌∷◌, ◌++◌, length}
+use Rattle.std.specs.Prelude.{◌≡◌, ◌≢◌, ℕ, ℤ, ◌+◌, ◌-◌, ◌<◌, ◌≤◌, ◌^◌, ◌+ℤ◌, ◌⊎◌, List, [], ◌∷◌, ◌++◌, length, codes}
 use Rattle.std.specs.List.{AllByRecursion}
-use Rattle.twkb_num.specs.Zigzag.{zigzag_of}
+use Rattle.twkb_num.specs.Spelling.{zigzag_of}
 use Rattle.twkb_points.specs.Point.{Point, IsCoordinate, AreInRange, origin}
 use Rattle.twkb_points.specs.Steps.{last_of}
 use Rattle.twkb_polyline.specs.Polyline.{number_text, polyline}
 use Rattle.twkb_polyline.specs.declared.fault.PolyReason.{PolyReason}
-use Rattle.twkb_polyline.specs.declared.fault.PolyReason.TheVariants.{BadChar, Cut, TooLong, Padded}
-use Rattle.twkb_polyline.specs.declared.fault.PolyReason.TheVariants.{Half, Range, TooMany}
+use Rattle.twkb_polyline.specs.declared.fault.PolyReason.TheVariants.{BadChar, Cut, TooLong, Padded, Half, Range}
+use Rattle.twkb_polyline.specs.declared.fault.PolyReason.TheVariants.{TooMany}
 use Rattle.twkb_polyline.specs.declared.fault.PolyFault.{PolyFault}
 use Rattle.twkb_polyline.specs.declared.fault.PolyFault.TheVariants.{Memory, At}
+use Rattle.twkb_polyline.specs.declared.fault.PolyReason.TheVariants as text
+
+-- ==== Where and why a text is refused (characters: Encoded Polyline Algorithm Format; reasons and
+-- order: profile).
 
 -- the most characters that a number may have
 abbrev pub longest : ℕ
@@ -132,3 +136,15 @@ pub record HasPoints (text : List ℕ) (max : ℕ) : Type 0 where
 abbrev pub IsRefused : List ℕ → ℕ → PolyFault → Type 0
 IsRefused text max Memory = HasPoints text max
 IsRefused text max (At offset reason) = IsTextFault text max offset reason
+
+-- ==== The text of each reason for which a text of points is refused (profile).
+
+-- the text of each reason
+abbrev pub point_text_words : PolyReason → List ℕ
+point_text_words text.BadChar = codes "bad character"
+point_text_words text.Cut = codes "number cut short"
+point_text_words text.TooLong = codes "number too long"
+point_text_words text.Padded = codes "padded number"
+point_text_words text.Half = codes "latitude without longitude"
+point_text_words text.Range = codes "coordinate out of range"
+point_text_words text.TooMany = codes "too many points"

@@ -1,10 +1,11 @@
 -- The text of a list of points (Encoded Polyline Algorithm Format).
-use Rattle.std.specs.Prelude.{◌≡◌, ℕ, ℤ, ◌≤◌, length, List, [], ◌∷◌, ◌++◌}
+use Rattle.std.specs.Prelude.{◌≡◌, ℕ, ℤ, ◌≤◌, length, List, [], ◌∷◌, ◌++◌, zero, suc, ◌+◌, ◌*◌, ◌-◌, ◌<◌, ◌^◌}
 use Rattle.twkb_num.specs.Alphabet.{five_unit}
-use Rattle.twkb_num.specs.Spelling.{shortest}
-use Rattle.twkb_num.specs.Zigzag.{zigzag_of}
-use Rattle.twkb_points.specs.Differences.{differences_from}
+use Rattle.twkb_num.specs.Spelling.{shortest, zigzag_of, low_digits, number_of}
+use Rattle.twkb_points.specs.Steps.{differences_from}
 use Rattle.twkb_points.specs.Point.{Point, AreInRange, origin}
+
+-- ==== The text of a list of points (Encoded Polyline Algorithm Format).
 
 -- a number's characters: the groups of five bits of its zigzag form, low group first
 abbrev pub number_text : ℤ → List ℕ
@@ -34,3 +35,27 @@ pub record AppendsDecoded (text : List ℕ) (max : ℕ) (old new : List Point) :
   pub ps : List Point
   pub appended : new ≡ old ++ ps
   pub decoded : DecodesTo text max ps
+
+-- ==== For the steps of a writer: points in pairs, and the characters of numbers as the low bytes
+-- of a word, the first one lowest.
+
+-- the points of a list of pairs
+abbrev pub points_of : List (List Point) → List Point
+points_of [] = []
+points_of (pair ∷ pairs) = pair ++ points_of pairs
+
+-- the lowest `count` groups of n, each in a byte
+abbrev pub spread : ℕ → ℕ → ℕ
+spread count n = number_of 256 (low_digits 32 count n)
+
+-- The number of groups of n: one for 0, and otherwise as many as its bits need.
+pub record HasGroups (n count : ℕ) : Type 0 where
+  pub some : 1 ≤ count
+  pub below : n < 32 ^ count
+  pub above : 2 ≤ count → 32 ^ (count - 1) ≤ n
+
+-- a mark for each of `count` groups but the last: 32 in its byte
+abbrev pub marks : ℕ → ℕ
+marks zero = 0
+marks (suc zero) = 0
+marks (suc (suc k)) = 32 + 256 * marks (suc k)

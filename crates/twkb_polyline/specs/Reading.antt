@@ -2,8 +2,7 @@
 use Rattle.std.specs.Prelude.{◌≡◌, ℕ, ℤ, ◌+◌, ◌<◌, ◌≤◌, ◌-ℤ◌, drop, length, List, [], ◌∷◌, ◌++◌}
 use Rattle.std.specs.Int.Digits.{AllBelowBase}
 use Rattle.twkb_num.specs.Alphabet.{five_unit}
-use Rattle.twkb_num.specs.Digits.{number_of}
-use Rattle.twkb_num.specs.Spelling.{open_units}
+use Rattle.twkb_num.specs.Spelling.{number_of, open_units}
 use Rattle.twkb_points.specs.Point.{Point, IsInRange}
 use Rattle.twkb_polyline.specs.Polyline.{number_text}
 use Rattle.twkb_polyline.specs.Fault.{StartsWithNumber}

@@ -1,8 +1,7 @@
 //! Encoding: from points to text.
 ghost use Rattle.std.specs.Prelude.{◌≡◌, ◌≤◌, ◌+◌, [], ◌∷◌, ℕ, List, ◌++◌, length, IfOk, OnOk, OnErr};
 ghost use Rattle.twkb_points.specs.Steps.{last_of};
-ghost use Rattle.twkb_polyline.specs.Polyline.{polyline, polyline_from};
-ghost use Rattle.twkb_polyline.specs.SpelledNumbers.{points_of};
+ghost use Rattle.twkb_polyline.specs.Polyline.{polyline, polyline_from, points_of};
 
 use crate::piece::flush;
 use crate::spelled_numbers::{push_four, push_two};

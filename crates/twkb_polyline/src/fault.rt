@@ -1,6 +1,6 @@
 //! The reasons for which a text is no polyline, and their places.
 ghost use Rattle.std.specs.Prelude.{◌≡◌, ◌≤◌, length};
-ghost use Rattle.twkb_polyline.specs.Texts.{point_text_words};
+ghost use Rattle.twkb_polyline.specs.Fault.{point_text_words};
 
 use std::alloc::AllocError;
 use thiserror::Error;
@@ -27,7 +27,7 @@ pub enum PolyReason {
 
 impl PolyReason {
     /// The reason in English, at most 31 bytes. Takes no memory.
-    #[tactic(auto, using(crate::proofs::ShortTexts::short_point_text))]
+    #[tactic(auto, using(crate::proofs::TextLemmas::short_point_text))]
     pub fn text(self) -> &'static str
         ensures words { result.now ≡ point_text_words self }
         ensures short { length (point_text_words self) ≤ 31 }

@@ -3,7 +3,7 @@
 ghost use Rattle.std.specs.Prelude.{◌≡◌, ◌+◌, ◌<◌, ◌≤◌, ◌^◌, [], ◌∷◌, ℕ, List, ◌++◌, length, OnOk};
 ghost use Rattle.twkb_num.specs.Alphabet.{five_unit};
 ghost use Rattle.twkb_num.specs.Spelling.{shortest};
-ghost use Rattle.twkb_polyline.specs.SpelledNumbers.{spread, HasGroups};
+ghost use Rattle.twkb_polyline.specs.Polyline.{spread, HasGroups};
 
 use crate::piece::make_room;
 use std::alloc::AllocError;

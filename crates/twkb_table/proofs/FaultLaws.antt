@@ -1,6 +1,7 @@
 -- Records name geometries or have one fault.
-use Rattle.std.proofs.Common.{◌≡◌, ℕ, ◌<◌, List, [], ◌∷◌, ◌++◌, length, refl, sym, ◌∙◌, ap, subst, arith, append_assoc}
-use Rattle.std.proofs.Common.{length-append, inl, inr, ◌≤◌, ◌+◌, suc, Bool, true, false, append-nil, ◌⊎◌, Option}
+use Rattle.std.proofs.Common.{◌≡◌, ℕ, ◌<◌, List, [], ◌∷◌, ◌++◌, length, refl, sym, ◌∙◌, ap, subst, arith}
+use Rattle.std.proofs.Common.{append_assoc, length-append, inl, inr, ◌≤◌, ◌+◌, suc, Bool, true, false, append-nil}
+use Rattle.std.proofs.Common.{◌⊎◌, Option}
 use Rattle.std.specs.Prelude.{map, reverse, if◌then◌else◌, ℤ, ◌&&◌, nat_le}
 use Rattle.std.specs.Str.{bytes_eq}
 use Rattle.std.proofs.lemmas.Bool.{true≢false}
@@ -15,28 +16,29 @@ use Rattle.twkb_polyline.proofs.FaultLemmas.{text_or_fault}
 use Rattle.twkb_tree.specs.Tree.{Tree, simple, collection}
 use Rattle.twkb_tree.specs.Limits.{Allowance, IsAllowance, IsValid}
 use Rattle.twkb_tree.specs.Rows.{rows_of, Row, rows}
-use Rattle.twkb_tree.specs.Accepted.{Accepts, nest_kept}
+use Rattle.twkb_tree.specs.Admits.{Accepts, nest_kept, has_place, id_allowed, has_same_ids, has_needed_precision}
+use Rattle.twkb_tree.specs.Admits.{precision_allowed, is_geometry, points_fit, has_points}
 use Rattle.twkb_tree.specs.declared.kind.Kind.{Kind}
-use Rattle.twkb_tree.specs.Admits.{has_place, id_allowed, has_same_ids, has_needed_precision, precision_allowed}
-use Rattle.twkb_tree.specs.Admits.{is_geometry, points_fit, has_points}
 use Rattle.twkb_tree.proofs.LimitLaws.{row_accepted, accepts_row, accepted_rows}
-use Rattle.twkb_tree.proofs.AllJoined.{all_join, all_apart}
+use Rattle.twkb_tree.proofs.RowLaws.{all_join, all_apart}
 use Rattle.twkb_tree.proofs.OpenLaws.{grown_geometry, new_geometry, rows_of-last}
 use Rattle.twkb_table.specs.Record.{Record, record_of, header, table}
-use Rattle.twkb_table.specs.Named.{Named, NamesNone}
+use Rattle.twkb_table.specs.RowFault.{Named, NamesNone, HasNoHeader, IsLaterFault, RowFault, AreComplete}
+use Rattle.twkb_table.specs.RowFault.{all_but_last, Stopped, read_rows, read_table, reading_after, is_record, Judges}
+use Rattle.twkb_table.specs.RowFault.{IsReading, Reading, Whole, row_words}
 use Rattle.twkb_table.specs.Judged.{Refused, Judged, Verdict, Accepted, When, Unless, UnlessFaulty, Place, place_of}
-use Rattle.twkb_table.specs.Judged.{points_left, JudgedByPoints}
-use Rattle.twkb_table.specs.Judged.{JudgedByPlace}
-use Rattle.twkb_table.specs.RowFault.{HasNoHeader, IsLaterFault, RowFault, AreComplete, all_but_last}
+use Rattle.twkb_table.specs.Judged.{points_left, JudgedByPoints, JudgedByPlace}
 use Rattle.twkb_table.specs.declared.reason.RowReason.{RowReason}
-use Rattle.twkb_table.specs.Reading.{Stopped, read_rows, read_table, reading_after, is_record, Judges, IsReading}
-use Rattle.twkb_table.specs.Reading.{Reading, Whole}
-use Rattle.twkb_table.specs.declared.reason.RowReason.TheVariants.{BadHeader, FieldCount}
-use Rattle.twkb_table.specs.declared.reason.RowReason.TheVariants.{Polyline}
-use Rattle.twkb_table.proofs.FieldLemmas.{head_same, tail_same, IsPlain, ArePlain, one_list, SomeOrNone, decided_depth}
-use Rattle.twkb_table.proofs.FieldLemmas.{decided_kind, decided_optional_id, decided_optional_precision}
+use Rattle.twkb_table.specs.declared.reason.RowReason.TheVariants.{BadHeader, FieldCount, Polyline}
+use Rattle.twkb_table.proofs.FieldLemmas.{head_same, tail_same, IsPlain, ArePlain, one_list, SomeOrNone}
+use Rattle.twkb_table.proofs.FieldLemmas.{decided_depth, decided_kind, decided_optional_id}
+use Rattle.twkb_table.proofs.FieldLemmas.{decided_optional_precision}
 use Rattle.twkb_table.proofs.Verdicts.{one_verdict, one_table, table_front, plain_rows, split, judged_row, has_room}
 use Rattle.twkb_table.proofs.Verdicts.{row_judged, both, both_true}
+use Rattle.twkb_polyline.proofs.TextLemmas.{short_point_text}
+use Rattle.twkb_table.specs.declared.reason.RowReason.TheVariants as row
+
+-- ==== Records name geometries or have one fault.
 
 -- ==== A fault excludes geometries, and records have at most one fault.
 
@@ -539,3 +541,10 @@ named_or_fault l records cap =
     let judge : List Row → Record → Verdict = λ before here. (some_verdict l before here).0 in
     of_reading l records (read_table judge records)
     (reads_table l judge records cap (λ before here _. (some_verdict l before here).1))
+
+-- ==== The text of each reason is short.
+
+-- the text of a record's reason is short
+pub short_row : (reason : RowReason) → length (row_words reason) ≤ 31
+short_row (row.Polyline offset reason) = short_point_text reason
+short_row _ = omega arith

@@ -1,13 +1,28 @@
 -- The fields of a row determine it, and it can be decided what a field spells.
-use Rattle.std.proofs.Common.{◌≡◌, ℕ, ◌≤◌, ◌==◌, List, [], ◌∷◌, length, Option, Some, None, refl, sym, ◌∙◌, ap, arith}
-use Rattle.std.proofs.Common.{zero, suc, ◌<◌, ◌^◌, ◌⊎◌, Bool, true, false, get_or, subst, inl, inr, ne_eqb}
-use Rattle.std.specs.Prelude.{ℤ, pos, negsuc, IfSome, map, decimal, if◌then◌else◌, nat_le}
-use Rattle.std.specs.List.{AllByRecursion}
+use Rattle.std.proofs.Common.{◌≡◌, ℕ, ◌+◌, ◌-◌, ◌<◌, ◌≤◌, ◌^◌, List, [], ◌∷◌, length, slice_index_or, get_or, take}
+use Rattle.std.proofs.Common.{decimal, ◌++◌, ◌*◌, ◌/◌, ◌%◌, Result, Ok, Err, sym, ◌∙◌, ap, subst, arith, ℤ, pos}
+use Rattle.std.proofs.Common.{negsuc, FitsSigned, w64, map, Fits, w8, ◌==◌, Option, Some, None, refl, zero, suc, ◌⊎◌}
+use Rattle.std.proofs.Common.{Bool, true, false, inl, inr, ne_eqb}
+use Rattle.std.proofs.lemmas.Int.{ints}
+use Rattle.std.proofs.lemmas.List.{take_more, length-map, length-take-le, get_or-map, get_or-take}
 use Rattle.std.specs.Fmt.{signed_decimal}
-use Rattle.std.proofs.lemmas.Fmt.{decimal_injective, decimal_nonempty, decimal_is_IsNumeral, first_decimal}
-use Rattle.std.proofs.lemmas.Fmt.{decimal_digit}
-use Rattle.std.specs.Str.{bytes_eq}
-use Rattle.std.specs.Str.Parse.{digits_value}
+use Rattle.std.specs.Int.Signed.{mag}
+use Rattle.std.specs.Str.{IsUtf8, bytes_eq}
+use Rattle.std.specs.Str.Parse.{ParsesSigned, digits_value}
+use Rattle.std.proofs.lemmas.Fmt.{decimal_digit, decimal_step, IsAscii-signed, parse-signed_decimal}
+use Rattle.std.proofs.lemmas.Fmt.{signed_decimal_injective, decimal_injective, decimal_nonempty, decimal_is_IsNumeral}
+use Rattle.std.proofs.lemmas.Fmt.{first_decimal}
+use Rattle.std.proofs.lemmas.Str.{IsUtf8-from_ascii}
+use Rattle.twkb_tree.specs.Tree.{IsId, IsPrecision}
+use Rattle.twkb_table.specs.Record.{IsDepthField, IsIdField, IsPrecisionField, eight_digits, optional, IsOptionalId}
+use Rattle.twkb_table.specs.Record.{IsOptionalPrecision, record_of}
+use Rattle.twkb_table.specs.declared.decimal.TheConstants.{GREATEST_DEPTH}
+use lib.Lanes.{zip2, Each1}
+use lib.ListN.{replicate}
+use Rattle.std.proofs.lemmas.Simd.{zip2_splat, Each1-get_or}
+use Rattle.twkb_num.proofs.ZigzagLemmas.{wrapped_sub}
+use Rattle.std.specs.Prelude.{IfSome, if◌then◌else◌, nat_le}
+use Rattle.std.specs.List.{AllByRecursion}
 use Rattle.std.proofs.lemmas.Bool.{true≢false}
 use Rattle.std.proofs.lemmas.Bool.Decides.{nat_tests}
 use Rattle.std.proofs.lemmas.Slice.Eq.{bytes_eq-Decides}
@@ -15,17 +30,153 @@ use Rattle.twkb_points.specs.Point.{Point}
 use Rattle.twkb_polyline.specs.Polyline.{polyline}
 use Rattle.twkb_polyline.proofs.FaultLemmas.{one_polyline}
 use Rattle.twkb_tree.specs.declared.kind.Kind.{Kind}
-use Rattle.twkb_tree.specs.Tree.{IsId, IsPrecision}
 use Rattle.twkb_tree.specs.Rows.{Row}
 use Rattle.twkb_tree.specs.Kind.{word_of}
 use Rattle.twkb_tree.specs.declared.kind.Kind.TheVariants as kind
 use Rattle.twkb_tree.specs.Admits.{is_id, is_precision}
 use Rattle.twkb_tree.proofs.RowForest.{is_id-true, id_is, is_precision-true, precision_is}
-use Rattle.twkb_table.specs.Fields.{optional, IsDepthField, IsIdField, IsPrecisionField, IsOptionalId}
-use Rattle.twkb_table.specs.Fields.{IsOptionalPrecision}
-use Rattle.twkb_table.specs.Record.{record_of}
-use Rattle.twkb_table.specs.declared.decimal.TheConstants.{GREATEST_DEPTH}
-use Rattle.twkb_table.proofs.DecimalLemmas.{mag-id, one_id, precision-id, depth-id, depth_number, precision_number}
+
+-- ==== Canonical decimals, as std reads and prints them.
+
+-- the size of an i64, less one if it is negative, is below 2 ^ 63
+pub mag-id : (id : ℤ) → IsId id → mag id < 2 ^ 63
+mag-id (pos n) h = let most = h.1 in omega (arith, ints)
+mag-id (negsuc n) h = let least = h.0 in omega (arith, ints)
+
+fits_id : (id : ℤ) → IsId id → FitsSigned w64 id
+fits_id id h = let least = h.0 in let most = h.1 in omega (arith, ints)
+
+-- bytes that are not text spell no number
+pub no_text : (field : List ℕ) → (IsUtf8 field → ⊥) → (id : ℤ) → IsIdField field id → ⊥
+no_text field bad id h = bad (subst IsUtf8 (sym h.0)
+    (IsUtf8-from_ascii (signed_decimal id) (IsAscii-signed id (mag-id id h.1))))
+
+-- std reads the number that a field spells
+pub parsed : {E : Type 0} (field : List ℕ) (r : Result ℤ E) (id : ℤ) → ParsesSigned w64 10 field r
+    → IsIdField field id → r ≡ Ok id
+parsed field r id p h = parse-signed_decimal w64 id field r (fits_id id h.1) (mag-id id h.1) h.0 p
+
+-- a field that std does not read spells no number
+pub no_number : {E : Type 0} (text field : List ℕ) (r : Result ℤ E) (e : E)
+    → ParsesSigned w64 10 text r → r ≡ Err e → text ≡ field → (id : ℤ) → IsIdField field id → ⊥
+no_number text field r e p is whole id h = let same : r ≡ Ok id = parsed text r id p (whole ∙ h.0, h.1) in cc (is, same)
+
+-- a field that is not the text of the number that std reads spells no number
+pub other_spelling : {E : Type 0} (text field : List ℕ) (r : Result ℤ E) (number : ℤ)
+    → ParsesSigned w64 10 text r → r ≡ Ok number → text ≡ field
+    → (signed_decimal number ≡ field → ⊥) → (id : ℤ) → IsIdField field id → ⊥
+other_spelling text field r number p is whole differs id h =
+    let same : r ≡ Ok id = parsed text r id p (whole ∙ h.0, h.1) in
+    let one : number ≡ id = cc (is, same) in
+    differs (ap (λ n. signed_decimal n) one ∙ sym h.0)
+
+-- two i64s with the same spelling are equal
+pub one_id : (a b : ℤ) → IsId a → IsId b → signed_decimal a ≡ signed_decimal b → a ≡ b
+one_id a b p q e = signed_decimal_injective a b (mag-id a p) (mag-id b q) e
+
+-- a precision is an i64
+pub precision-id : (precision : ℤ) → IsPrecision precision → IsId precision
+precision-id precision h = let least = h.0 in let most = h.1 in (omega (arith, ints), omega (arith, ints))
+
+-- a depth is an i64
+pub depth-id : (depth : ℕ) → depth ≤ GREATEST_DEPTH → IsId (pos depth)
+depth-id depth few = (omega (arith, ints), omega (arith, ints))
+
+-- the depth that a field spells is its number
+pub depth_number : (field : List ℕ) (number : ℤ) (depth : ℕ) → IsIdField field number
+    → IsDepthField field depth → number ≡ pos depth
+depth_number field number depth n d = one_id number (pos depth) n.1 (depth-id depth d.1) (sym n.0 ∙ d.0)
+
+-- the precision that a field spells is its number
+pub precision_number : (field : List ℕ) (number precision : ℤ) → IsIdField field number
+    → IsPrecisionField field precision → number ≡ precision
+precision_number field number precision n p = one_id number precision n.1 (precision-id precision p.1) (sym n.0 ∙ p.0)
+
+-- a field of one digit spells its value
+pub one_digit : (field : List ℕ) → 1 ≤ length field → length field < 2
+    → 48 ≤ slice_index_or field 0 0 → slice_index_or field 0 0 ≤ 57
+    → IsIdField field (pos (slice_index_or field 0 0 - 48))
+one_digit (d ∷ []) some few low high =
+    let value : 48 + (d - 48) ≡ d = omega arith in
+    let spelled : decimal (d - 48) ≡ d ∷ [] = decimal_digit (d - 48) (omega arith) ∙ ap (λ n. n ∷ []) value in
+    (sym spelled, depth-id (d - 48) (omega arith))
+one_digit _ some few low high = absurd (omega arith)
+
+-- the value of the first digit alone
+pub digit_first : (field : List ℕ) → 0 < length field → 49 ≤ get_or field 0 0
+    → get_or field 0 0 ≤ 57 → decimal (get_or field 0 0 - 48) ≡ take 1 field
+digit_first [] some low high = absurd (omega arith)
+digit_first (d ∷ ds) some low high = let value : 48 + (d - 48) ≡ d = omega arith in
+    decimal_digit (d - 48) (omega arith) ∙ ap (λ n. n ∷ []) value
+
+-- one more digit after a number that is not 0
+pub digit_more : (field : List ℕ) (at n : ℕ) → at < length field → 0 < n → 48 ≤ get_or field at 0
+    → get_or field at 0 ≤ 57 → n * 10 + (get_or field at 0 - 48) < 2 ^ 64
+    → decimal n ≡ take at field
+    → decimal (n * 10 + (get_or field at 0 - 48)) ≡ take (at + 1) field
+digit_more field at n more some low high fits h =
+    let d = get_or field at 0 in
+    let m = n * 10 + (d - 48) in
+    let front : m / 10 ≡ n = omega arith in
+    let last : 48 + m % 10 ≡ d = omega arith in
+    decimal_step m (omega arith) fits ∙ ap (λ k. decimal k ++ (48 + m % 10) ∷ []) front
+    ∙ ap (λ u. decimal n ++ u ∷ []) last ∙ ap (λ ds. ds ++ d ∷ []) h
+    ∙ sym (take_more field at 0 more)
+
+-- ==== Eight digits read at once.
+
+-- eight digits, the first of which is not 0, are the decimal of their number
+eight_spelled : (field ds : List ℕ) → 8 ≤ length field
+    → ((k : ℕ) → k < 8 → get_or field k 0 ≡ 48 + get_or ds k 0) → ((k : ℕ) → k < 8 → get_or ds k 0 < 10)
+    → 0 < get_or ds 0 0 → decimal (get_or ds 0 0) ≡ take 1 field → decimal (eight_digits ds) ≡ take 8 field
+eight_spelled field ds long are below some first =
+    let d = λ (k : ℕ). get_or ds k 0 in
+    let more = λ (at n : ℕ) (low : at < 8) (above : 0 < n) (few : n < 10 ^ 8) (h : decimal n ≡ take at field).
+    let is = are at low in let digit = below at low in
+    let value : get_or field at 0 - 48 ≡ get_or ds at 0 = omega arith in
+    let e : decimal (n * 10 + get_or ds at 0) ≡ take (at + 1) field =
+    ap (λ v. decimal (n * 10 + v)) (sym value)
+    ∙ digit_more field at n (omega arith) above (omega arith) (omega arith) (omega arith) h in e in
+    let b0 = below 0 (omega arith) in let b1 = below 1 (omega arith) in let b2 = below 2 (omega arith) in
+    let b3 = below 3 (omega arith) in let b4 = below 4 (omega arith) in let b5 = below 5 (omega arith) in
+    let b6 = below 6 (omega arith) in
+    let two = more 1 (d 0) (omega arith) some (omega arith) first in
+    let three = more 2 (d 0 * 10 + d 1) (omega arith) (omega arith) (omega arith) two in
+    let four = more 3 ((d 0 * 10 + d 1) * 10 + d 2) (omega arith) (omega arith) (omega arith) three in
+    let five = more 4 (((d 0 * 10 + d 1) * 10 + d 2) * 10 + d 3) (omega arith) (omega arith) (omega arith) four in
+    let six = more 5 ((((d 0 * 10 + d 1) * 10 + d 2) * 10 + d 3) * 10 + d 4) (omega arith) (omega arith)
+    (omega arith) five in
+    let seven = more 6 (((((d 0 * 10 + d 1) * 10 + d 2) * 10 + d 3) * 10 + d 4) * 10 + d 5) (omega arith)
+    (omega arith) (omega arith) six in
+    let eight = more 7 ((((((d 0 * 10 + d 1) * 10 + d 2) * 10 + d 3) * 10 + d 4) * 10 + d 5) * 10 + d 6)
+    (omega arith) (omega arith) (omega arith) seven in
+    let value : eight_digits ds
+    ≡ ((((((d 0 * 10 + d 1) * 10 + d 2) * 10 + d 3) * 10 + d 4) * 10 + d 5) * 10 + d 6) * 10 + d 7 = omega arith in
+    ap decimal value ∙ eight
+
+-- eight bytes that are digits after the code of 0 is taken off
+pub eight_read : (field : List ℕ) → 8 ≤ length field → ((k : ℕ) → Fits w8 (get_or field k 0))
+    → Each1 (λ d. d < 10) (zip2 wrapped_sub (take 8 field) (replicate 8 48)) → 49 ≤ get_or field 0 0
+    → get_or field 0 0 ≤ 57
+    → decimal (eight_digits (zip2 wrapped_sub (take 8 field) (replicate 8 48))) ≡ take 8 field
+eight_read field long fit below low high =
+    let front = take 8 field in
+    let less = λ (b : ℕ). wrapped_sub b 48 in
+    let ds = zip2 wrapped_sub front (replicate 8 48) in
+    let count : length front ≡ 8 = length-take-le 8 field long in
+    let ds_are : ds ≡ map less front = zip2_splat wrapped_sub front 8 48 count in
+    let ds_count : length ds ≡ 8 = ap length ds_are ∙ length-map front less ∙ count in
+    let digit = λ (k : ℕ) (within : k < 8). let e : get_or ds k 0 < 10 =
+    Each1-get_or (λ d. d < 10) ds k 0 (omega arith) below in e in
+    let are = λ (k : ℕ) (within : k < 8). let e : get_or field k 0 ≡ 48 + get_or ds k 0 =
+    (let byte = (fit k).fits in let d = digit k within in
+    let is : get_or ds k 0 ≡ wrapped_sub (get_or field k 0) 48 = ap (λ xs. get_or xs k 0) ds_are
+    ∙ get_or-map less front k 0 0 (omega arith) ∙ ap less (get_or-take 8 field k 0 within) in omega arith) in e in
+    let first : get_or field 0 0 - 48 ≡ get_or ds 0 0 = (let e = are 0 (omega arith) in omega arith) in
+    eight_spelled field ds long are digit (omega arith)
+    (ap decimal (sym first) ∙ digit_first field (omega arith) low high)
+
+-- ==== The fields of a row determine it, and it can be decided what a field spells.
 
 -- ==== The fields of a row determine it.
 

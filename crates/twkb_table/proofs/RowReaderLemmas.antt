@@ -1,10 +1,37 @@
--- The next row of a record, judged by the open rows of the geometry that is being read.
-use Rattle.std.proofs.Common.{◌≡◌, ℕ, ◌<◌, ◌≤◌, Bool, true, false, List, [], length, Option, Some, None, sym, ◌∙◌, ap}
-use Rattle.std.proofs.Common.{subst, arith, zero, suc, ◌∷◌, ◌++◌, refl, inl, inr, ℤ, Result, Ok, Err, Bor}
-use Rattle.std.proofs.Common.{length-append, ◌-◌}
-use Rattle.std.specs.Prelude.{is_some, nat_le, reverse, ◌&&◌, IsSome, option_map, IfSome}
+-- The records of a text, and the next row of a record, judged by the open rows.
+use Rattle.std.proofs.Common.{◌≡◌, ◌∙◌, ℕ, List, [], ◌∷◌, ◌++◌, Option, Some, None, Bool, true, false, Ok, sym, refl}
+use Rattle.std.proofs.Common.{inl, ap, subst, arith, zero, suc, ◌+◌, ◌-◌, ◌<◌, ◌≤◌, length, take, set, get_or}
+use Rattle.std.proofs.Common.{length-append, inr, ℤ, Result, Err, Bor}
+use Rattle.std.specs.Prelude.{option_map, IfSome, map, is_some, nat_le, reverse, ◌&&◌, IsSome}
+use Rattle.std.specs.Borrow.{MutBor}
+use Rattle.csv.specs.Reading.{Reached, ReadRecord, Ready, default_config, is_flexible, reader_state, reader_trim}
+use Rattle.csv.specs.Reading.{source_of, strip_bom, took_first, AreRecords}
+use Rattle.csv.specs.declared.reader.Reader.{Reader}
+use Rattle.csv.specs.declared.parser.State.TheVariants as st
+use Rattle.csv.specs.declared.reader.Trim.TheVariants as trim
+use Rattle.csv.proofs.ReadFacts.{rows-end, rows-more}
+use Rattle.twkb_io.specs.declared.tap.Tap.{Tap}
+use Rattle.twkb_table.specs.Record.{Record, record_of, header, table, IsDepthField}
+use Rattle.twkb_table.specs.CsvRecords.{ReadsNext, AreRecordsOf, BeginWith, HasGivenOf, IsSetUp, standing, told_by}
+use Rattle.std.specs.List.{AllByRecursion}
+use Rattle.csv.specs.Machine.{next_record}
+use Rattle.csv.proofs.RoundTrip.{read-write}
+use Rattle.twkb_points.specs.Steps.{differences}
+use Rattle.twkb_tree.specs.Tree.{Tree}
+use Rattle.twkb_tree.specs.Limits.{Allowance, IsAllowance}
+use Rattle.twkb_tree.specs.Rows.{Row, rows_of, row_points, AreRowsOfOne, AreValidRowsOfOne}
+use Rattle.twkb_table.specs.RowFault.{Named}
+use Rattle.twkb_table.specs.Text.{joined, csvtext}
+use Rattle.twkb_table.proofs.FieldLemmas.{IsPlain, ArePlain, precision-ids, same_row}
+use Rattle.twkb_table.proofs.Verdicts.{plain_rows, judged_row, has_room, both_true}
+use Rattle.twkb_table.proofs.LineLemmas.{AreBare, bare_decimal, bare_optional, bare_text, bare_word, row_same}
+use Rattle.std.proofs.Math.Seq.{take-append_seam}
+use Rattle.std.proofs.lemmas.List.{length-take-le, get_or-set_other, reverse-append, length-reverse}
+use Rattle.twkb_tree.specs.declared.kind.Kind.{Kind}
+use Rattle.twkb_tree.specs.declared.open_rows.OpenRow.{OpenRow}
+use Rattle.twkb_tree.specs.Open.{opened, first_answer, ids_by, open_parent, row_of, child_of, count_at, AreOpen}
+use Rattle.twkb_tree.specs.Open.{row_place_at}
 use Rattle.std.proofs.lemmas.Bool.Decides.{nat_tests}
-use Rattle.std.proofs.lemmas.List.{reverse-append, length-reverse}
 use Rattle.std.proofs.lemmas.Bool.{true≢false}
 use Rattle.csv.specs.Records.{field_at}
 use Rattle.twkb_points.specs.Point.{Point}
@@ -13,17 +40,10 @@ use Rattle.twkb_polyline.specs.Fault.{IsRefused}
 use Rattle.twkb_polyline.specs.declared.fault.PolyFault.{PolyFault}
 use Rattle.twkb_polyline.specs.declared.fault.PolyFault.TheVariants.{At}
 use Rattle.twkb_polyline.specs.declared.fault.PolyReason.{PolyReason}
-use Rattle.twkb_tree.specs.declared.kind.Kind.{Kind}
-use Rattle.twkb_tree.specs.declared.open_rows.OpenRow.{OpenRow}
-use Rattle.twkb_tree.specs.Limits.{Allowance}
-use Rattle.twkb_tree.specs.Rows.{Row, row_points}
-use Rattle.twkb_tree.specs.Admits.{parent, first_child, steps_to, has_place, fits, id_allowed, admits_after, has_points}
-use Rattle.twkb_tree.specs.Accepted.{geometry_rows, point_count, Accepts, Continues, since_root}
-use Rattle.twkb_tree.specs.Open.{ids_by, open_parent, row_of, child_of, count_at, AreOpen, opened}
-use Rattle.twkb_tree.specs.RowPlace.{row_place_at}
+use Rattle.twkb_tree.specs.Admits.{parent, first_child, steps_to, has_place, fits, id_allowed, admits_after}
+use Rattle.twkb_tree.specs.Admits.{has_points, geometry_rows, point_count, Accepts, Continues, since_root}
 use Rattle.twkb_tree.specs.Kind.{word_of}
 use Rattle.twkb_tree.specs.declared.row_place.RowPlace.{RowPlace}
-use Rattle.twkb_tree.specs.RowLists.{AreRowsOfOne, AreValidRowsOfOne}
 use Rattle.twkb_tree.specs.declared.kind.Kind.TheVariants as kind
 use Rattle.twkb_tree.proofs.OpenLaws.{kind_by, head_kind, head_id, steps_open, kind_under, ids_under, nodes_under}
 use Rattle.twkb_tree.proofs.OpenLaws.{points_under, open_more, open_none, steps_within, continues_is, continues_true}
@@ -31,26 +51,221 @@ use Rattle.twkb_tree.proofs.OpenLaws.{none_is, root_alone, open_last, since_last
 use Rattle.twkb_tree.proofs.LimitLaws.{accepted_rows, continued, valid_list}
 use Rattle.twkb_tree.proofs.RowForest.{facts}
 use Rattle.twkb_flat.specs.declared.stop.Stop.{Stop}
-use Rattle.twkb_flat.specs.Stops.{IfRefused}
+use Rattle.twkb_flat.specs.Taking.{IfRefused}
 use Rattle.twkb_flat.specs.declared.stop.Stop.TheVariants as stop
 use Rattle.twkb_flat.specs.Rows.{row_with}
 use Rattle.twkb_flat.specs.declared.node.Row.{Row as Bare}
-use Rattle.twkb_table.specs.Judged.{Verdict, place_of, JudgedByPlace, Accepted, Judged, Refused}
-use Rattle.twkb_table.specs.Standing.{place_seen, StandsAfter}
-use Rattle.twkb_table.specs.Record.{Record}
+use Rattle.twkb_table.specs.Judged.{Verdict, place_of, JudgedByPlace, Accepted, Judged, Refused, place_seen}
+use Rattle.twkb_table.specs.Judged.{StandsAfter, AllowsCount, RefusesCount}
 use Rattle.twkb_table.specs.Waiting.{point_row, IsAlone, may_wait, root_row}
 use Rattle.twkb_table.specs.declared.row_reader.State.{State}
 use Rattle.twkb_table.specs.declared.row_reader.State.TheVariants as state
 use Rattle.twkb_table.specs.RowReading.{JudgedAfter, Kept}
-use Rattle.twkb_table.specs.Fields.{IsDepthField}
 use Rattle.twkb_table.specs.declared.reason.RowReason.{RowReason}
 use Rattle.twkb_table.specs.declared.reason.RowReason.TheVariants.{BadKind, BadPlace, Polyline}
 use Rattle.twkb_table.specs.declared.row_reader.Root.{Root}
 use Rattle.twkb_table.specs.Head.{head_row, most_points, HasNeedlessText, JudgedAs, JudgedBy}
-use Rattle.twkb_table.specs.Places.{AllowsCount, RefusesCount}
 use Rattle.twkb_table.specs.declared.head.RowHead.{RowHead}
-use Rattle.twkb_table.proofs.FieldLemmas.{same_row}
-use Rattle.twkb_table.proofs.Verdicts.{judged_row, has_room, both_true}
+
+-- ==== What a read of `csv` says about the place in a text.
+
+-- a new reader has given no record
+pub given_none : {R : Type 0} (remaining : R → Option (List ℕ)) (told : Option (List ℕ))
+    (reader : Reader (MutBor (Tap R)))
+    → source_of (told_by remaining) reader ≡ option_map strip_bom told → reader_state reader ≡ st.StartRecord
+    → HasGivenOf remaining told [] reader
+unfolding Reached
+given_none remaining None reader source state = tt
+given_none remaining (Some text) reader source state = (strip_bom text, source, (sym state, refl))
+
+-- one more record was given
+given_more : {R : Type 0} (remaining : R → Option (List ℕ)) (old new : Reader (MutBor (Tap R)))
+    (fields : Record)
+    → IsSetUp old → ReadRecord (told_by remaining) old new true fields
+    → (told : Option (List ℕ)) (records : List Record) → HasGivenOf remaining told records old
+    → HasGivenOf remaining told (records ++ fields ∷ []) new
+given_more remaining old new fields set_up read None records given = tt
+given_more remaining old new fields set_up read (Some text) records given =
+    rows-more (told_by remaining) old new fields default_config st.StartRecord (strip_bom text)
+    given.0 records set_up.3 given.1 given.2 read
+
+-- there is no further record
+given_all : {R : Type 0} (remaining : R → Option (List ℕ)) (old new : Reader (MutBor (Tap R)))
+    (fields : Record)
+    → IsSetUp old → ReadRecord (told_by remaining) old new false fields
+    → (told : Option (List ℕ)) (records : List Record) → HasGivenOf remaining told records old
+    → IfSome told (λ text. AreRecordsOf text records)
+given_all remaining old new fields set_up read None records given = tt
+given_all remaining old new fields set_up read (Some text) records given = (
+  reader_state old,
+  given.0,
+  given.2,
+  rows-end (told_by remaining) old new fields default_config
+      given.0 set_up.3 given.1 read,
+)
+
+-- the text begins with the records given
+pub row_place_begins : {R : Type 0} (remaining : R → Option (List ℕ)) (told : Option (List ℕ))
+    (records : List Record) (ended : Bool) (reader : Reader (MutBor (Tap R)))
+    → standing remaining told records ended reader → IfSome told (λ text. BeginWith text records)
+row_place_begins remaining None records ended reader s = tt
+row_place_begins remaining (Some text) records false reader s = (reader_state reader, s.1.0, s.1.2)
+row_place_begins remaining (Some text) records true reader s = (s.0, s.1, s.2)
+
+-- what a read of `csv` shows
+pub given_next : {R : Type 0} (remaining : R → Option (List ℕ)) (old new : Reader (MutBor (Tap R)))
+    (fields : Record) (found : Bool) → (reader_trim old ≡ trim.None → took_first new ≡ true)
+    → is_flexible new ≡ is_flexible old
+    → (reader_trim old ≡ trim.None → Ready old → ReadRecord (told_by remaining) old new found
+    fields)
+    → ReadsNext remaining old (Ok found) fields new
+given_next remaining old new fields true first flexible read = λ told records (set_up, given).
+    (let step = read set_up.0 set_up.1 in (
+      (step.3 ∙ set_up.0, inl (first set_up.0), flexible ∙ set_up.2, step.2 ∙ set_up.3),
+      given_more remaining old new fields set_up step told records given,
+    ))
+given_next remaining old new fields false first flexible read = λ told records (set_up, given).
+    given_all remaining old new fields set_up (read set_up.0 set_up.1) told records given
+
+-- ==== The reader of `csv` gives the records of a table's text.
+
+-- ---- records that are read back
+
+abbrev IsOpen : Record → Type 0
+IsOpen (x ∷ y ∷ ys) = AreBare (x ∷ y ∷ ys)
+IsOpen _ = ⊥
+
+line_read : (x y : List ℕ) (ys : Record) (tail : List ℕ) → AreBare (x ∷ y ∷ ys)
+    → next_record default_config st.StartRecord [] [] ((joined (x ∷ y ∷ ys) ++ 10 ∷ []) ++ tail)
+    ≡ Some (x ∷ y ∷ ys, st.StartRecord, tail)
+line_read x y ys tail h = ap (λ t. next_record default_config st.StartRecord [] [] (t ++ tail))
+    (sym (row_same x y ys h)) ∙ read-write (x ∷ y ∷ ys) tail
+
+lines_read : (records : List Record) → AllByRecursion IsOpen records
+    → Reached default_config st.StartRecord (csvtext records) records st.StartRecord []
+unfolding Reached
+lines_read [] h = (refl, refl)
+lines_read ([] ∷ records) h = absurd h.0
+lines_read ((x ∷ []) ∷ records) h = absurd h.0
+lines_read ((x ∷ y ∷ ys) ∷ records) h = (
+  (x ∷ y ∷ ys, st.StartRecord, csvtext records),
+  line_read x y ys (csvtext records) h.0,
+  refl,
+  lines_read records h.1,
+)
+
+no_more : next_record default_config st.StartRecord [] [] [] ≡ None
+unfolding next_record
+no_more = refl
+
+open_record : (r : Row) → IsPlain r → IsOpen (record_of r)
+open_record r p = (
+  bare_decimal r.depth (omega (arith, p.depth)),
+  (
+    bare_word r.kind,
+    (
+      bare_optional r.id p.id,
+      (
+        bare_optional r.precision
+            (precision-ids r.precision p.precision),
+        (bare_text (differences r.points), tt),
+      ),
+    ),
+  ),
+)
+
+open_records : (rs : List Row) → ArePlain rs → AllByRecursion IsOpen (map record_of rs)
+open_records [] p = tt
+open_records (r ∷ rs) p = (open_record r p.0, open_records rs p.1)
+
+open_header : IsOpen header
+open_header = (refl, (refl, (refl, (refl, (refl, tt)))))
+
+no_mark : (records : List Record) → strip_bom (csvtext (header ∷ records)) ≡ csvtext (header ∷ records)
+unfolding strip_bom
+no_mark records = refl
+
+pub text_read : (l : Allowance) (records : List Record) (gs : List Tree) → IsAllowance l
+    → Named l records gs → AreRecords default_config st.StartRecord
+    (strip_bom (csvtext records)) records
+text_read l records gs cap n =
+    let lines = lines_read (table gs) (open_header, open_records (rows_of gs) (plain_rows l gs cap n.valid)) in
+    let all : AreRecords default_config st.StartRecord (strip_bom (csvtext (table gs))) (table gs) = (
+      st.StartRecord,
+      [],
+      subst (λ t. Reached default_config st.StartRecord t (table gs)
+          st.StartRecord []) (sym (no_mark (map record_of (rows_of gs)))) lines,
+      no_more,
+    ) in
+    subst (λ rs. AreRecords default_config st.StartRecord (strip_bom (csvtext rs)) rs) (sym n.table_of) all
+
+-- ==== The open rows after one more row, from their last ones.
+
+-- the open row of the last row
+abbrev pub entered : Row → OpenRow
+entered r = record { kind = r.kind; child_ids = None }
+
+-- the open row of the parent, with a child noted
+abbrev pub noted : OpenRow → Row → OpenRow
+noted o r = record { kind = o.kind; child_ids = first_answer o.child_ids (is_some r.id) }
+
+-- the open row of a row of this kind
+pub as_entered : (r : Row) (k : Kind) → r.kind ≡ k → record { kind = k; child_ids = None } ≡ entered r
+as_entered r k is = ap (λ (x : Kind). record { kind = x; child_ids = None }) (sym is)
+
+-- the open rows after a row depend only on those above it
+pub opened_front : (d n : ℕ) (os : List OpenRow) (r : Row) → d ≤ n → n ≤ length os
+    → opened d (take n os) r ≡ opened d os r
+opened_front (suc d) zero os r le few = absurd (omega (arith, le))
+opened_front (suc d) (suc n) [] r le few = absurd (omega (arith, few))
+opened_front (suc (suc d)) (suc n) (o ∷ os) r le few = ap (λ xs. o ∷ xs)
+    (opened_front (suc d) n os r (omega (arith, le)) (omega (arith, few)))
+opened_front _ _ _ r le few = refl
+
+-- the open rows after a row do not depend on those below it
+pub opened_before : (d : ℕ) (os more : List OpenRow) (r : Row) → d ≤ length os → opened d (os ++ more) r ≡ opened d os r
+opened_before d os more r le =
+    sym (opened_front d (length os) (os ++ more) r le (omega (arith, length-append os more)))
+    ∙ ap (λ (xs : List OpenRow). opened d xs r) (take-append_seam os more)
+
+-- a row is written below its parent, which notes it as a child
+written : (os : List OpenRow) (i : ℕ) (r : Row) (e x q : OpenRow) → suc i < length os → e ≡ entered r
+    → q ≡ noted (get_or os i x) r → take (suc (suc i)) (set (set os (suc i) e) i q) ≡ opened (suc i) os r
+written (o ∷ p ∷ os) zero r e x q within is notes = cc (is, notes)
+written (o ∷ p ∷ os) (suc i) r e x q within is notes =
+    ap (λ xs. o ∷ xs) (written (p ∷ os) i r e x q (omega (arith, within)) is notes)
+written _ i r e x q within is notes = absurd (omega (arith, within))
+
+pub row_written : (os : List OpenRow) (d : ℕ) (r : Row) (e x q : OpenRow) (b : Bool) → 0 < d
+    → d < length os → e ≡ entered r
+    → q ≡ record {
+      kind = (get_or (set os d e) (d - 1) x).kind;
+      child_ids = first_answer (get_or (set os d e) (d - 1) x).child_ids b;
+    } → b ≡ is_some r.id
+    → take (d + 1) (set (set os d e) (d - 1) q) ≡ opened d os r
+row_written os d r e x q b below within is notes bit =
+    let i = d - 1 in
+    let next : suc i ≡ d = omega (arith, below) in
+    let stood : get_or (set os d e) i x ≡ get_or os i x = get_or-set_other os d i e x
+    (λ same. omega (arith, same, next)) in
+    let noted_so : q ≡ noted (get_or os i x) r =
+    notes ∙ (ap (λ (o : OpenRow). record { kind = o.kind; child_ids = first_answer o.child_ids b }) stood
+    ∙ ap (λ (a : Bool). record { kind = (get_or os i x).kind; child_ids = first_answer (get_or os i x).child_ids a })
+    bit) in
+    let after : suc d ≡ d + 1 = omega arith in
+    subst (λ n. take n (set (set os d e) i q) ≡ opened d os r) after
+    (subst (λ n. take (suc n) (set (set os n e) i q) ≡ opened n os r) next
+    (written os i r e x q (omega (arith, within, next)) is noted_so))
+
+-- places after the open rows have no effect
+pub opened_in : (d n : ℕ) (items now : List OpenRow) (r : Row) → n ≤ length items
+    → now ≡ take n items → d ≤ length now → opened d items r ≡ opened d now r
+opened_in d n items now r few is le =
+    let size = length-take-le n items few in
+    sym (opened_front d n items r (omega (arith, le, ap length is, size)) few)
+    ∙ ap (λ (xs : List OpenRow). opened d xs r) (sym is)
+
+-- ==== The next row of a record, judged by the open rows of the geometry that is being read.
 
 -- ==== The verdict on a record by the open rows is the verdict by the rows so far.
 

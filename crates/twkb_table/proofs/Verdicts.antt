@@ -2,7 +2,7 @@
 use mathlib.Core.List.{reverse_aux}
 use Rattle.std.proofs.Common.{◌≡◌, Bool, true, false, List, [], ◌∷◌, None, refl, sym, ◌∙◌, subst, inl, inr, ℕ, zero}
 use Rattle.std.proofs.Common.{suc, ◌+◌, ◌≤◌, ◌==◌, length, Option, Some, ap, arith, ◌++◌}
-use Rattle.std.specs.Prelude.{◌&&◌, ℤ, decimal, IfSome, map, reverse, ◌↔◌}
+use Rattle.std.specs.Prelude.{◌&&◌, ℤ, decimal, IfSome, map, reverse, ◌↔◌, MatchOption}
 use Rattle.std.proofs.lemmas.Bool.{true≢false, cases_Bool}
 use Rattle.std.specs.List.{AllByRecursion}
 use Rattle.std.proofs.lemmas.Fmt.{decimal_injective}
@@ -12,37 +12,45 @@ use Rattle.twkb_points.specs.Point.{Point}
 use Rattle.twkb_polyline.specs.Polyline.{polyline, DecodesTo}
 use Rattle.twkb_polyline.specs.declared.fault.PolyReason.{PolyReason}
 use Rattle.twkb_polyline.proofs.FaultLemmas.{one_polyline, text_fault_none, text_fault_one}
-use Rattle.twkb_tree.specs.Rows.{Row, rows_of, rows}
+use Rattle.twkb_tree.specs.Rows.{Row, rows_of, rows, AreValid, AreGeometries, AreShallow, AreValidRows, IsAtRoot}
+use Rattle.twkb_tree.specs.Rows.{IsShallow}
 use Rattle.twkb_tree.specs.declared.kind.Kind.{Kind}
 use Rattle.twkb_tree.specs.Tree.{IsPrecision, Tree, IsId}
 use Rattle.twkb_tree.specs.Limits.{Allowance, IsAllowance, IsValid}
 use Rattle.twkb_tree.specs.Admits.{parent, first_child, steps_to, has_place, id_allowed, has_same_ids}
-use Rattle.twkb_tree.specs.Admits.{has_needed_precision, precision_allowed, is_geometry, points_fit, precision_in_range}
-use Rattle.twkb_tree.specs.Admits.{fits, has_points}
-use Rattle.twkb_tree.specs.Accepted.{nest_kept, geometry_rows, point_count, since_root, Accepts, AreAccepted}
+use Rattle.twkb_tree.specs.Admits.{has_needed_precision, precision_allowed, is_geometry, points_fit}
+use Rattle.twkb_tree.specs.Admits.{precision_in_range, fits, has_points, nest_kept, geometry_rows, point_count}
+use Rattle.twkb_tree.specs.Admits.{since_root, Accepts, AreAccepted, id_in_range}
 use Rattle.twkb_tree.specs.Kind.{word_of}
-use Rattle.twkb_tree.specs.RowLists.{AreValid, AreGeometries, AreShallow, AreValidRows, IsAtRoot, IsShallow}
 use Rattle.twkb_tree.proofs.OpenLaws.{precision_joined, precision_tested}
 use Rattle.twkb_tree.proofs.RowForest.{fits_by, id_in_range-true, is_precision-true, facts, no_points_of}
 use Rattle.twkb_tree.proofs.RowForest.{optional_id_is, precision_is}
-use Rattle.twkb_tree.proofs.RowDepths.{valid_depths}
-use Rattle.twkb_tree.proofs.RowLaws.{one_reading, first_all_ended}
+use Rattle.twkb_tree.proofs.RowLaws.{valid_depths, one_reading, first_all_ended, all_apart, all_join}
 use Rattle.twkb_tree.proofs.LimitLaws.{accepted_rows, valid_front, row_accepted}
-use Rattle.twkb_tree.proofs.AllJoined.{all_apart, all_join}
 use Rattle.twkb_table.specs.Judged.{Verdict, Accepted, Refused, When, Unless, place_of, points_left, JudgedByPoints}
-use Rattle.twkb_table.specs.Judged.{JudgedByPlace, Judged, Place, UnlessFaulty}
+use Rattle.twkb_table.specs.Judged.{JudgedByPlace, Judged, Place, UnlessFaulty, JudgedById, JudgedHavingId}
+use Rattle.twkb_table.specs.Judged.{JudgedByPrecision, JudgedHavingPrecision, rule_reason, place_seen}
 use Rattle.twkb_table.specs.declared.reason.RowReason.{RowReason}
-use Rattle.twkb_table.specs.Fields.{optional, IsDepthField, IsOptionalId, IsOptionalPrecision}
-use Rattle.twkb_table.specs.Record.{Record, record_of, header}
+use Rattle.twkb_table.specs.Record.{optional, IsDepthField, IsOptionalId, IsOptionalPrecision, Record, record_of}
+use Rattle.twkb_table.specs.Record.{header}
 use Rattle.twkb_table.specs.declared.reason.RowReason.TheVariants.{FieldCount, BadDepth, BadKind, BadPlace, TooDeep}
 use Rattle.twkb_table.specs.declared.reason.RowReason.TheVariants.{TooManyNodes, BadId, IdNotAllowed, MixedIds}
-use Rattle.twkb_table.specs.declared.reason.RowReason.TheVariants.{BadPrecision, PrecisionMissing, PrecisionNotAllowed}
-use Rattle.twkb_table.specs.declared.reason.RowReason.TheVariants.{PolylineNotAllowed, Polyline, PointCount}
+use Rattle.twkb_table.specs.declared.reason.RowReason.TheVariants.{BadPrecision, PrecisionMissing}
+use Rattle.twkb_table.specs.declared.reason.RowReason.TheVariants.{PrecisionNotAllowed, PolylineNotAllowed, Polyline}
+use Rattle.twkb_table.specs.declared.reason.RowReason.TheVariants.{PointCount}
 use Rattle.twkb_table.specs.declared.decimal.TheConstants.{GREATEST_DEPTH}
-use Rattle.twkb_table.specs.Named.{Named}
-use Rattle.twkb_table.specs.Parts.{BeginAtRoot}
+use Rattle.twkb_table.specs.RowFault.{Named}
+use Rattle.twkb_table.specs.Text.{BeginAtRoot}
 use Rattle.twkb_table.proofs.FieldLemmas.{one_depth, one_word, one_optional, precision-ids, ArePlain, one_list}
 use Rattle.twkb_table.proofs.FieldLemmas.{head_same, tail_same}
+use Rattle.std.proofs.lemmas.Bool.Decides.{nat_tests}
+use Rattle.twkb_tree.specs.declared.row_place.RowPlace.{RowPlace}
+use Rattle.twkb_tree.specs.Open.{row_of, child_of}
+use Rattle.twkb_tree.specs.Refusal.{Check, first_failed, place_checks, id_checks, precision_checks}
+use Rattle.twkb_tree.specs.declared.row_checks.Refusal.{Refusal}
+
+-- ==== The verdict on a record is its row exactly if that row may come next, and tables consist of
+-- such records.
 
 -- ==== Steps along the chain of reasons.
 
@@ -484,3 +492,72 @@ named_cut l records more ks cap root n =
         valid = valid_both.1;
       },
     )
+
+-- ==== The first test of a row that fails gives its record the verdict.
+
+-- the verdict is the reason of the first test that fails; if none fails, the others decide
+abbrev pub WhenFailed : Verdict → List Check → Type 0 → Type 0
+WhenFailed v [] Others = Others
+WhenFailed v (c ∷ checks) Others = When v (c.holds ≡ false) (rule_reason c.otherwise)
+    (WhenFailed v checks Others)
+
+-- the first test that fails gives the verdict
+pub judged_first : (v : Verdict) (checks : List Check) (Others : Type 0) (failed : Option Refusal)
+    → failed ≡ first_failed checks
+    → MatchOption failed Others (λ why. v ≡ Refused (rule_reason why))
+    → WhenFailed v checks Others
+judged_first v [] Others failed e h = rw e at h
+judged_first v (c ∷ checks) Others failed e h = elim (cases_Bool c.holds) [
+  | inl holds ↦ inr (
+    λ fails. true≢false (sym holds ∙ fails),
+    judged_first v checks Others failed
+        (rw holds at e) h,
+  )
+  | inr fails ↦ inl (fails, rw (rw fails at e) at h)
+]
+
+-- the tests of a row's place give the verdict on its place
+pub judged_place : (l : Allowance) (s : RowPlace) (k : Kind)
+    (id_field precision_field text : List ℕ)
+    (v : Verdict) (failed : Option Refusal)
+    → failed ≡ first_failed (place_checks l true (row_of s.parent) s.nodes s.depth k)
+    → MatchOption failed (JudgedById l (place_seen s) k id_field precision_field text v)
+    (λ why. v ≡ Refused (rule_reason why))
+    → JudgedByPlace l (place_seen s) k id_field precision_field text v
+judged_place l s k id_field precision_field text v failed e h =
+    by_number (judged_first v (place_checks l true (row_of s.parent) s.nodes s.depth k)
+    (JudgedById l (place_seen s) k id_field precision_field text v) failed e h)
+  where
+    by_number : WhenFailed v (place_checks l true (row_of s.parent) s.nodes s.depth k)
+        (JudgedById l (place_seen s) k id_field precision_field text v)
+        → JudgedByPlace l (place_seen s) k id_field precision_field text v
+    by_number (inl place) = inl place
+    by_number (inr (a, inl nest)) = inr (a, inl nest)
+    by_number (inr (a, inr (b, inl full))) = inr
+        (a, inr (b, inl (grind (arith, nat_tests, full.0), full.1)))
+    by_number (inr (a, inr (b, inr rest))) = inr
+        (a, inr (b, inr (λ many. rest.0 (grind (arith, nat_tests)), rest.1)))
+
+-- the tests of an id in range give the verdict on it
+pub judged_having_id : (l : Allowance) (s : RowPlace) (r : Row) (precision_field text : List ℕ)
+    (v : Verdict) (failed : Option Refusal) → id_in_range r.id ≡ true
+    → failed ≡ first_failed (id_checks (row_of s.parent) (child_of s.parent) r)
+    → MatchOption failed (JudgedByPrecision l (place_seen s) r.kind r.id precision_field text v)
+    (λ why. v ≡ Refused (rule_reason why))
+    → JudgedHavingId l (place_seen s) r.kind r.id precision_field text v
+judged_having_id l s r precision_field text v failed in_range e h =
+    skip v BadId (judged_first v (id_checks (row_of s.parent) (child_of s.parent) r)
+    (JudgedByPrecision l (place_seen s) r.kind r.id precision_field text v) failed e h)
+    (stays_true _ in_range)
+
+-- the tests of a precision in range give the verdict on it
+pub judged_having_precision : (l : Allowance) (s : RowPlace) (r : Row) (text : List ℕ) (v : Verdict)
+    (failed : Option Refusal) → precision_in_range r.precision ≡ true
+    → failed ≡ first_failed (precision_checks (row_of s.parent) r)
+    → MatchOption failed (JudgedByPoints l (place_seen s) r.kind r.id r.precision text v)
+    (λ why. v ≡ Refused (rule_reason why))
+    → JudgedHavingPrecision l (place_seen s) r.kind r.id r.precision text v
+judged_having_precision l s r text v failed in_range e h =
+    skip v BadPrecision (judged_first v (precision_checks (row_of s.parent) r)
+    (JudgedByPoints l (place_seen s) r.kind r.id r.precision text v) failed e h)
+    (stays_true _ in_range)

@@ -2,8 +2,7 @@
 use Rattle.std.specs.Prelude.{◌≡◌, ◌≢◌, ℕ, ◌-◌, [], false, Result, Ok, Err}
 use Rattle.twkb_tree.specs.Admits.{has_points}
 use Rattle.twkb_flat.specs.declared.node.Row.{Row}
-use Rattle.twkb_table.specs.Judged.{Verdict, Refused, JudgedByPoints}
-use Rattle.twkb_table.specs.Standing.{place_seen}
+use Rattle.twkb_table.specs.Judged.{Verdict, Refused, JudgedByPoints, place_seen}
 use Rattle.twkb_table.specs.declared.head.RowHead.{RowHead}
 use Rattle.twkb_table.specs.declared.reason.RowReason.{RowReason}
 

@@ -1,7 +1,5 @@
--- The verdict on a record after the rows so far: a row, or refused for the first reason that
--- holds (profile).
-use Rattle.std.specs.Prelude.{◌≡◌, ◌≢◌, ℕ, ◌-◌, ◌≤◌, ◌⊎◌, ◌&&◌, ℤ, List, [], ◌∷◌, length, Option}
-use Rattle.std.specs.Prelude.{Bool, false}
+-- The verdict on a record after the rows so far: a row, or refused for the first reason that holds (profile).
+use Rattle.std.specs.Prelude.{◌≡◌, ◌≢◌, ℕ, ◌-◌, ◌≤◌, ◌⊎◌, ◌&&◌, ℤ, List, [], ◌∷◌, length, Option, Bool, false, true}
 use Rattle.twkb_points.specs.Point.{Point}
 use Rattle.twkb_polyline.specs.Polyline.{DecodesTo}
 use Rattle.twkb_polyline.specs.Fault.{IsTextFault}
@@ -9,21 +7,26 @@ use Rattle.twkb_polyline.specs.declared.fault.PolyReason.{PolyReason}
 use Rattle.twkb_tree.specs.declared.kind.Kind.{Kind}
 use Rattle.twkb_tree.specs.Rows.{Row}
 use Rattle.twkb_tree.specs.Limits.{Allowance}
-use Rattle.twkb_tree.specs.Admits.{parent, first_child, steps_to, has_place, id_allowed}
-use Rattle.twkb_tree.specs.Admits.{has_same_ids, has_needed_precision, precision_allowed}
-use Rattle.twkb_tree.specs.Admits.{is_geometry, points_fit, has_points}
-use Rattle.twkb_tree.specs.Accepted.{nest_kept, geometry_rows, point_count}
-use Rattle.twkb_table.specs.Fields.{IsDepthField, IsOptionalId, IsOptionalPrecision}
+use Rattle.twkb_tree.specs.Admits.{parent, first_child, steps_to, has_place, id_allowed, has_same_ids}
+use Rattle.twkb_tree.specs.Admits.{has_needed_precision, precision_allowed, is_geometry, points_fit, has_points}
+use Rattle.twkb_tree.specs.Admits.{nest_kept, geometry_rows, point_count, since_root}
+use Rattle.twkb_table.specs.Record.{IsDepthField, IsOptionalId, IsOptionalPrecision, Record}
 use Rattle.twkb_tree.specs.Kind.{word_of}
-use Rattle.twkb_table.specs.Record.{Record}
 use Rattle.twkb_table.specs.declared.reason.RowReason.{RowReason}
-use Rattle.twkb_table.specs.declared.reason.RowReason.TheVariants.{FieldCount, BadDepth, BadKind}
-use Rattle.twkb_table.specs.declared.reason.RowReason.TheVariants.{BadPlace, TooDeep, TooManyNodes}
-use Rattle.twkb_table.specs.declared.reason.RowReason.TheVariants.{BadId, IdNotAllowed, MixedIds}
+use Rattle.twkb_table.specs.declared.reason.RowReason.TheVariants.{FieldCount, BadDepth, BadKind, BadPlace, TooDeep}
+use Rattle.twkb_table.specs.declared.reason.RowReason.TheVariants.{TooManyNodes, BadId, IdNotAllowed, MixedIds}
 use Rattle.twkb_table.specs.declared.reason.RowReason.TheVariants.{BadPrecision, PrecisionMissing}
-use Rattle.twkb_table.specs.declared.reason.RowReason.TheVariants.{PrecisionNotAllowed}
-use Rattle.twkb_table.specs.declared.reason.RowReason.TheVariants.{PolylineNotAllowed, Polyline}
+use Rattle.twkb_table.specs.declared.reason.RowReason.TheVariants.{PrecisionNotAllowed, PolylineNotAllowed, Polyline}
 use Rattle.twkb_table.specs.declared.reason.RowReason.TheVariants.{PointCount}
+use Rattle.twkb_polyline.specs.declared.fault.PolyReason.TheVariants as text
+use Rattle.twkb_tree.specs.declared.row_checks.Refusal.{Refusal}
+use Rattle.twkb_table.specs.declared.reason.RowReason.TheVariants as row
+use Rattle.twkb_tree.specs.declared.open_rows.OpenRow.{OpenRow}
+use Rattle.twkb_tree.specs.Open.{AreOpen, row_of, child_of}
+use Rattle.twkb_tree.specs.declared.row_place.RowPlace.{RowPlace}
+
+-- ==== The verdict on a record after the rows so far: a row, or refused for the first reason that
+-- holds (profile).
 
 -- a record is a row, or is refused for a reason
 pub data Verdict : Type 0 where
@@ -124,3 +127,96 @@ Judged l before (depth_field ∷ kind_field ∷ id_field ∷ precision_field ∷
     Unless v (λ k. kind_field ≡ word_of k) BadKind (λ k.
     JudgedByPlace l (place_of d before) k id_field precision_field text v))
 Judged l before _ v = v ≡ Refused FieldCount
+
+-- ==== The reason of a record that breaks a rule of rows.
+
+-- the reason of a record that breaks a rule of rows; points that have no text are refused at byte 0
+abbrev pub rule_reason : Refusal → RowReason
+rule_reason Refusal.BadPlace = row.BadPlace
+rule_reason Refusal.TooDeep = row.TooDeep
+rule_reason Refusal.TooManyNodes = row.TooManyNodes
+rule_reason Refusal.BadId = row.BadId
+rule_reason Refusal.IdNotAllowed = row.IdNotAllowed
+rule_reason Refusal.MixedIds = row.MixedIds
+rule_reason Refusal.BadPrecision = row.BadPrecision
+rule_reason Refusal.PrecisionMissing = row.PrecisionMissing
+rule_reason Refusal.PrecisionNotAllowed = row.PrecisionNotAllowed
+rule_reason Refusal.PointsNotAllowed = row.PolylineNotAllowed
+rule_reason Refusal.PointCount = row.PointCount
+rule_reason Refusal.CoordinateRange = row.Polyline 0 text.Range
+rule_reason Refusal.TooManyPoints = row.Polyline 0 text.TooMany
+
+-- ==== The verdict that a row's place, its id, its precision and the number of its points give its
+-- record.
+
+-- a row of this kind may come at this place: the verdict on its id is the verdict on its place
+abbrev pub HasPlace : Allowance → Place → Kind → Type 0
+HasPlace l here k =
+    (id_field precision_field text : List ℕ) (v : Verdict)
+    → JudgedById l here k id_field precision_field text v → JudgedByPlace l here k id_field precision_field text v
+
+-- a row of this kind may not come at this place, for this reason, whatever its other fields are
+abbrev pub LacksPlace : Allowance → Place → Kind → RowReason → Type 0
+LacksPlace l here k reason =
+    (id_field precision_field text : List ℕ) → JudgedByPlace l here k id_field precision_field text (Refused reason)
+
+-- a row of this kind may have this id at this place, and the field spells it: the verdict on its
+-- precision is the verdict on its id
+abbrev pub HasId : Place → Kind → List ℕ → Option ℤ → Type 0
+HasId here k field id =
+    (l : Allowance) (precision_field text : List ℕ) (v : Verdict)
+    → JudgedByPrecision l here k id precision_field text v → JudgedById l here k field precision_field text v
+
+-- the field is no id for a row of this kind at this place, for this reason, whatever its other
+-- fields are
+abbrev pub LacksId : Place → Kind → List ℕ → RowReason → Type 0
+LacksId here k field reason =
+    (l : Allowance) (precision_field text : List ℕ) → JudgedById l here k field precision_field text (Refused reason)
+
+-- a row may have this precision at this place, and the field spells it: the verdict on its points
+-- is the verdict on its precision
+abbrev pub HasPrecision : Place → List ℕ → Option ℤ → Type 0
+HasPrecision here field precision =
+    (l : Allowance) (k : Kind) (id : Option ℤ) (text : List ℕ) (v : Verdict)
+    → JudgedByPoints l here k id precision text v → JudgedByPrecision l here k id field text v
+
+-- the field is no precision for a row at this place, for this reason, whatever its other fields are
+abbrev pub LacksPrecision : Place → List ℕ → RowReason → Type 0
+LacksPrecision here field reason =
+    (l : Allowance) (k : Kind) (id : Option ℤ) (text : List ℕ)
+    → JudgedByPrecision l here k id field text (Refused reason)
+
+-- a row of this kind may have these points at this place: the record is accepted
+abbrev pub AllowsCount : Place → Kind → List Point → Type 0
+AllowsCount here k ps =
+    (id precision : Option ℤ)
+    → JudgedByCount here k id precision ps (Accepted (record {
+      depth = here.depth;
+      kind = k;
+      id = id;
+      precision = precision;
+      points = ps;
+    }))
+
+-- a row of this kind may not have as many points as these at this place, for this reason
+abbrev pub RefusesCount : Place → Kind → List Point → RowReason → Type 0
+RefusesCount here k ps reason = (id precision : Option ℤ) → JudgedByCount here k id precision ps (Refused reason)
+
+-- ==== The place of the next row, by the open rows.
+
+-- the place of a row, with a parent of the open row's kind and a first child with an id or without
+abbrev pub place_seen : RowPlace → Place
+place_seen row_place = record {
+  depth = row_place.depth;
+  steps = true;
+  parent = row_of row_place.parent;
+  first = child_of row_place.parent;
+  nodes = row_place.nodes;
+  points = row_place.points;
+}
+
+-- The open rows and the two counts are those of the rows so far, last one first.
+pub record StandsAfter (before : List Row) (rows : List OpenRow) (nodes points : ℕ) : Type 0 where
+  pub open_rows : AreOpen before rows
+  pub node_count : nodes ≡ length (since_root before)
+  pub points_held : points ≡ point_count (since_root before)

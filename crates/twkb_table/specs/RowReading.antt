@@ -1,15 +1,14 @@
 -- The state of a reader of rows in the geometry that it reads.
 use Rattle.std.specs.Prelude.{◌≡◌, ◌<◌, List, [], ◌∷◌, ◌++◌, length, reverse, Result, Ok, Err, true, false, Bool}
 use Rattle.twkb_tree.specs.Limits.{Allowance}
-use Rattle.twkb_tree.specs.Rows.{Row as TableRow}
-use Rattle.twkb_tree.specs.RowLists.{AreValidRowsOfOne}
+use Rattle.twkb_tree.specs.Rows.{Row as TableRow, AreValidRowsOfOne}
 use Rattle.twkb_tree.specs.declared.open_rows.OpenRow.{OpenRow}
 use Rattle.twkb_tree.specs.Open.{AreOpen}
 use Rattle.twkb_table.specs.Record.{Record}
 use Rattle.twkb_table.specs.Waiting.{waiting_rows}
 use Rattle.twkb_table.specs.declared.row_reader.State.TheVariants as state
 use Rattle.twkb_flat.specs.declared.stop.Stop.{Stop}
-use Rattle.twkb_flat.specs.Stops.{IfRefused}
+use Rattle.twkb_flat.specs.Taking.{IfRefused}
 use Rattle.twkb_table.specs.Judged.{Verdict, Accepted, Refused, Judged}
 use Rattle.twkb_table.specs.declared.reason.RowReason.{RowReason}
 use Rattle.twkb_table.specs.declared.row_reader.RowReader.{RowReader}

@@ -8,8 +8,7 @@ use Rattle.twkb_tree.specs.Tree.{Tree}
 use Rattle.twkb_tree.specs.Rows.{Row, rows}
 use Rattle.twkb_tree.specs.Limits.{Allowance, IsValid}
 use Rattle.twkb_table.specs.Record.{Record}
-use Rattle.twkb_table.specs.Named.{Named}
-use Rattle.twkb_table.specs.RowFault.{AreComplete, all_but_last}
+use Rattle.twkb_table.specs.RowFault.{Named, AreComplete, all_but_last}
 use Rattle.twkb_table.specs.CsvRecords.{AreRecordsOf, BeginWith, HasGiven, standing}
 use Rattle.twkb_table.specs.RowReading.{limits_of, waiting, Keeps}
 use Rattle.twkb_table.specs.Waiting.{IsPoint, is_over, is_stopped}

@@ -3,8 +3,8 @@ ghost use Rattle.std.specs.Prelude.{◌≡◌, ◌++◌, ◌≤◌, ◌<◌, ◌
 ghost use Rattle.std.specs.Prelude.{take, pos, true, int_lt};
 ghost use lib.Lanes.{Each1};
 ghost use Rattle.std.specs.Fmt.{signed_decimal};
-ghost use Rattle.twkb_table.specs.Fields.{Reads, IsDepthField, IsIdField, IsPrecisionField};
-ghost use Rattle.twkb_table.specs.Fields.{IsOptionalId, IsOptionalPrecision, eight_digits};
+ghost use Rattle.twkb_table.specs.Record.{Reads, IsDepthField, IsIdField, IsPrecisionField, IsOptionalId};
+ghost use Rattle.twkb_table.specs.Record.{IsOptionalPrecision, eight_digits};
 
 use itoa::Buffer;
 use std::alloc::AllocError;

@@ -1,7 +1,7 @@
 //! The five fields of a record.
 ghost use Rattle.std.specs.Prelude.{◌≡◌, ◌<◌, length, Some};
 ghost use Rattle.csv.specs.Records.{fields_of, field_at};
-ghost use Rattle.twkb_table.specs.FiveFields.{record_seen};
+ghost use Rattle.twkb_table.specs.Record.{record_seen};
 
 use csv::ByteRecord;
 

@@ -6,9 +6,7 @@ ghost use Rattle.twkb_tree.specs.Tree.{nest, nest_all, trees};
 ghost use Rattle.twkb_tree.specs.Rows.{rows, rows_with, member_rows, rows_of_each, plain_row, polygon_rows};
 ghost use Rattle.twkb_tree.specs.declared.kind.Kind.{Kind};
 ghost use Rattle.twkb_table.specs.Record.{record_of};
-ghost use Rattle.twkb_table.specs.Text.{csvtext};
-ghost use Rattle.twkb_table.specs.RowLines.{row_lines};
-ghost use Rattle.twkb_table.specs.RecordWriting.{IsReady, Writes};
+ghost use Rattle.twkb_table.specs.Text.{csvtext, row_lines, IsReady, Writes};
 
 use crate::record_writer::RecordWriter;
 use std::alloc::{AllocError, Global};
@@ -21,7 +19,7 @@ use twkb_tree::{Geometry, Ids, Kind, Lines, Members, Pts, Shape, id_at};
 /// their polylines: Encoded Polyline Algorithm Format). The geometry must nest no deeper than the
 /// largest limits allow: at most 32 collections around a member. Takes memory for the text and for
 /// the longest polyline.
-#[tactic(auto, unfolding(crate::specs::RowLines::row_lines))]
+#[tactic(auto, unfolding(crate::specs::Text::row_lines))]
 pub fn rows_text(alloc: Global, geometry: &Geometry) -> Result<Vec<u8>, AllocError>
     requires nest { nest geometry.now ≤ largest_limits.nest }
     ensures { IfOk result (λ text. text.items ≡ csvtext (map record_of (rows 0 geometry.now))) }

@@ -75,7 +75,7 @@ impl RowHead<'_> {
 
 impl PointSource for RowHead<'_> {
     ghost use Rattle.twkb_flat.specs.Rows.{row_with};
-    ghost use Rattle.twkb_flat.specs.Stops.{IfRefused};
+    ghost use Rattle.twkb_flat.specs.Taking.{IfRefused};
     ghost use Rattle.twkb_table.specs.Judged.{Accepted, Refused};
     ghost use Rattle.twkb_table.specs.Head.{head_row, JudgedAs};
 

@@ -1,7 +1,6 @@
 //! The words of the kinds, read from a field and appended to a text.
 ghost use Rattle.std.specs.Prelude.{◌≡◌, ◌↔◌, ◌≤◌, ◌+◌, [], ◌∷◌, ◌++◌, length, IsTrue, IfSome, IfNone};
-ghost use Rattle.twkb_table.specs.Fields.{Reads};
-ghost use Rattle.twkb_table.specs.KindWord.{kind_of_ten};
+ghost use Rattle.twkb_table.specs.Record.{Reads, kind_of_ten};
 ghost use Rattle.twkb_tree.specs.Kind.{word_of};
 
 use twkb_num::{Piece, eight_bytes, four_bytes};

@@ -5,17 +5,14 @@ ghost use Rattle.csv.specs.Reading.{AreRecords, default_config, strip_bom};
 ghost use Rattle.csv.specs.declared.parser.State.TheVariants.{StartRecord};
 ghost use Rattle.twkb_tree.specs.Tree.{Tree};
 ghost use Rattle.twkb_tree.specs.Limits.{Allowance, IsAllowance};
-ghost use Rattle.twkb_tree.specs.Rows.{Row};
-ghost use Rattle.twkb_tree.specs.RowLists.{AreValidRows};
-ghost use Rattle.twkb_tree.specs.Accepted.{Accepts};
+ghost use Rattle.twkb_tree.specs.Rows.{Row, AreValidRows};
+ghost use Rattle.twkb_tree.specs.Admits.{Accepts};
 ghost use Rattle.twkb_table.specs.Record.{Record, header, record_of};
-ghost use Rattle.twkb_table.specs.Named.{Named, NamesNone, NameMore};
-ghost use Rattle.twkb_table.specs.Parts.{BeginAtRoot, NameApart};
-ghost use Rattle.twkb_table.specs.Text.{csvtext};
+ghost use Rattle.twkb_table.specs.RowFault.{Named, NamesNone, NameMore, JudgedBehind, RowFault, AreComplete};
+ghost use Rattle.twkb_table.specs.RowFault.{read_table, Judges, IsReading};
+ghost use Rattle.twkb_table.specs.Text.{BeginAtRoot, NameApart, csvtext};
 ghost use Rattle.twkb_table.specs.Judged.{Judged, Verdict, Accepted, Refused};
-ghost use Rattle.twkb_table.specs.RowFault.{JudgedBehind, RowFault, AreComplete};
 ghost use Rattle.twkb_table.specs.Samples.{PointTable, PointText, PolygonTable, CollectionTable};
-ghost use Rattle.twkb_table.specs.Reading.{read_table, Judges, IsReading};
 ghost use Rattle.twkb_table.specs.declared.reason.RowReason.{RowReason};
 
 /// Records name at most one list of geometries.

@@ -2,8 +2,7 @@
 ghost use Rattle.std.specs.Prelude.{◌≡◌, ◌+◌, []};
 ghost use Rattle.csv.specs.Records.{fields_of};
 ghost use Rattle.twkb_io.specs.Taps.{device_of};
-ghost use Rattle.twkb_table.specs.CsvRecords.{HasGiven};
-ghost use Rattle.twkb_table.specs.NumberedRecords.{ReadsNext, ReadsRecord, fault_of};
+ghost use Rattle.twkb_table.specs.CsvRecords.{HasGiven, ReadsNext, ReadsRecord, fault_of};
 
 use crate::reason::RowReason;
 use crate::table_fault::TableFault;

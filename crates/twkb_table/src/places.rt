@@ -2,10 +2,8 @@
 //! number of points.
 ghost use Rattle.std.specs.Prelude.{◌≡◌, List, length, IfOk, IfErr, MatchOption};
 ghost use Rattle.twkb_points.specs.Point.{Point};
-ghost use Rattle.twkb_table.specs.Places.{HasPlace, LacksPlace, HasId, LacksId, HasPrecision, LacksPrecision};
-ghost use Rattle.twkb_table.specs.Places.{AllowsCount, RefusesCount};
-ghost use Rattle.twkb_table.specs.RowRules.{rule_reason};
-ghost use Rattle.twkb_table.specs.Standing.{place_seen};
+ghost use Rattle.twkb_table.specs.Judged.{HasPlace, LacksPlace, HasId, LacksId, HasPrecision, LacksPrecision};
+ghost use Rattle.twkb_table.specs.Judged.{AllowsCount, RefusesCount, rule_reason, place_seen};
 
 use crate::decimal::{parse_optional_id, parse_optional_precision};
 use crate::reason::RowReason;

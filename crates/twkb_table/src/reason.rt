@@ -1,6 +1,6 @@
 //! The reasons for which a record is refused.
 ghost use Rattle.std.specs.Prelude.{◌≡◌, ◌≤◌, length};
-ghost use Rattle.twkb_table.specs.Texts.{row_words};
+ghost use Rattle.twkb_table.specs.RowFault.{row_words};
 
 use thiserror::Error;
 use twkb_polyline::PolyReason;
@@ -48,7 +48,7 @@ pub enum RowReason {
 impl RowReason {
     /// The reason in a few words, at most 31 bytes, without the place in a polyline. Takes no
     /// memory.
-    #[tactic(auto, using(crate::proofs::ShortTexts::short_row))]
+    #[tactic(auto, using(crate::proofs::FaultLaws::short_row))]
     pub fn text(self) -> &'static str
         ensures words { result.now ≡ row_words self }
         ensures short { length (row_words self) ≤ 31 }

@@ -2,12 +2,11 @@
 ghost use Rattle.std.specs.Prelude.{List, IfOk, IfErr};
 ghost use Rattle.csv.specs.Records.{fields_of};
 ghost use Rattle.twkb_tree.specs.Rows.{Row as TableRow};
-ghost use Rattle.twkb_table.specs.Judged.{Judged, Accepted, Refused, JudgedByPlace};
-ghost use Rattle.twkb_table.specs.Standing.{place_seen, StandsAfter};
+ghost use Rattle.twkb_table.specs.Judged.{Judged, Accepted, Refused, JudgedByPlace, place_seen, StandsAfter};
 ghost use Rattle.twkb_table.specs.Head.{JudgedBy};
-ghost use Rattle.twkb_table.specs.FiveFields.{record_seen};
+ghost use Rattle.twkb_table.specs.Record.{record_seen};
 ghost use Rattle.twkb_flat.specs.Rows.{row_with};
-ghost use Rattle.twkb_flat.specs.Stops.{IfRefused};
+ghost use Rattle.twkb_flat.specs.Taking.{IfRefused};
 
 use crate::decimal::parse_depth;
 use crate::fields::{FIELD_COUNT, Fields, five_fields};

@@ -2,10 +2,8 @@
 ghost use Rattle.std.specs.Prelude.{◌≡◌, [], ◌∷◌, OnOk, IfOk};
 ghost use Rattle.csv.specs.Writing.{default_writer, row_text};
 ghost use Rattle.twkb_flat.specs.Rows.{row_with};
-ghost use Rattle.twkb_table.specs.Fields.{optional};
-ghost use Rattle.twkb_table.specs.FiveFields.{record_seen};
-ghost use Rattle.twkb_table.specs.RowLines.{row_lines};
-ghost use Rattle.twkb_table.specs.RecordWriting.{IsBare, IsReady, Writes, text_of};
+ghost use Rattle.twkb_table.specs.Record.{optional, record_seen};
+ghost use Rattle.twkb_table.specs.Text.{row_lines, IsBare, IsReady, Writes, text_of};
 
 use crate::fields::Fields;
 use csv::Writer;

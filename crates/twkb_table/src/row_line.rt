@@ -3,8 +3,8 @@ ghost use Rattle.std.specs.Prelude.{◌≡◌, ◌≤◌, ◌+◌, [], ◌∷◌
 ghost use Rattle.std.specs.Fmt.{signed_decimal};
 ghost use Rattle.twkb_tree.specs.Kind.{word_of};
 ghost use Rattle.twkb_flat.specs.Rows.{row_with};
-ghost use Rattle.twkb_table.specs.Fields.{optional};
-ghost use Rattle.twkb_table.specs.RowLines.{row_lines, Grows};
+ghost use Rattle.twkb_table.specs.Record.{optional};
+ghost use Rattle.twkb_table.specs.Text.{row_lines, Grows};
 
 use crate::kind_word::push_kind;
 use itoa::Buffer;

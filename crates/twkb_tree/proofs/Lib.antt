@@ -1,19 +1,10 @@
 -- Lemmas of the crate, by their topic.
-pub mod AllJoined
-pub mod Copied
-pub mod ExtentSteps
-pub mod Shapes
+pub mod RowLaws
+pub mod TreeLemmas
 pub mod InRange
 pub mod KindWords
 pub mod LimitLaws
-pub mod MemberLemmas
 pub mod OpenLaws
-pub mod Pairs
-pub mod PointAdded
 pub mod PointMore
-pub mod RowLaws
-pub mod RowDepths
 pub mod RowForest
 pub mod RowSteps
-pub mod RowSums
-pub mod RowPlaceLemmas

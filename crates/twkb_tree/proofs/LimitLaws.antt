@@ -11,13 +11,11 @@ use Rattle.std.proofs.lemmas.Bool.{cases_Bool}
 use Rattle.std.proofs.lemmas.Bool.Decides.{nat_tests}
 use Rattle.twkb_tree.specs.Limits.{Allowance, IsAllowance, largest_limits}
 use Rattle.twkb_tree.specs.Tree.{Tree, Trees, end, ◌▷◌, trees, members, AreTrees, nodes}
-use Rattle.twkb_tree.specs.Rows.{Row, rows, rows_of}
+use Rattle.twkb_tree.specs.Rows.{Row, rows, rows_of, AreValid, AreValidRows, AreGeometries, BeginValidRows}
+use Rattle.twkb_tree.specs.Rows.{AreRowsOfOne, AreValidRowsOfOne}
 use Rattle.twkb_tree.specs.RowLemmas.{length-rows_with}
-use Rattle.twkb_tree.specs.Admits.{IsAdmitted}
-use Rattle.twkb_tree.specs.Accepted.{geometry_rows, weight, Accepts, AreAccepted, since_root, IsOneRoot, Continues}
-use Rattle.twkb_tree.specs.Accepted.{is_member, nest_kept, point_count}
-use Rattle.twkb_tree.specs.RowLists.{AreValid, AreValidRows, AreGeometries, BeginValidRows, AreRowsOfOne}
-use Rattle.twkb_tree.specs.RowLists.{AreValidRowsOfOne}
+use Rattle.twkb_tree.specs.Admits.{IsAdmitted, geometry_rows, weight, Accepts, AreAccepted, since_root, IsOneRoot}
+use Rattle.twkb_tree.specs.Admits.{Continues, is_member, nest_kept, point_count}
 use Rattle.twkb_tree.specs.declared.limits.TheConstants.{NEST_CAP}
 use Rattle.twkb_tree.proofs.RowForest.{past, member_nodes}
 use Rattle.twkb_tree.proofs.RowSteps.{past-listed, at_roots, rows_admitted, listed-members, fit_roots, Along}
@@ -25,9 +23,8 @@ use Rattle.twkb_tree.proofs.RowSteps.{UnderParent, along_locally, locally_along}
 use Rattle.twkb_tree.proofs.RowLaws.{rows_all, rows_all-trees, rows_of-members, admitted_forest, Nests, NestAll}
 use Rattle.twkb_tree.proofs.RowLaws.{roots_nest, nest_roots, HasPointsInRange, point_count-rows, flat_in_range}
 use Rattle.twkb_tree.proofs.RowLaws.{rows_in_range, IsDeeper, AreDeep, one_tree, only_root, rest_deep, root_depth}
-use Rattle.twkb_tree.proofs.RowLaws.{one_root}
-use Rattle.twkb_tree.proofs.RowSums.{Adds, TotalAll, totals, of_totals, since_root-over, deep_reverse}
-use Rattle.twkb_tree.proofs.AllJoined.{all_join, all_apart}
+use Rattle.twkb_tree.proofs.RowLaws.{one_root, Adds, TotalAll, totals, of_totals, since_root-over, deep_reverse}
+use Rattle.twkb_tree.proofs.RowLaws.{all_join, all_apart}
 
 -- ==== Rows are accepted one by one exactly if they are the rows of valid geometries.
 

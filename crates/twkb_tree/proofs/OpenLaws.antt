@@ -1,7 +1,7 @@
 -- The open rows decide which row may come next, and an accepted row moves them on.
-use Rattle.std.proofs.Common.{◌≡◌, ℕ, zero, suc, ◌+◌, ◌<◌, List, [], ◌∷◌, length, Option, Some, None, get_or, sym, ◌∙◌}
-use Rattle.std.proofs.Common.{ap, subst, arith, ◌≤◌, Bool, true, false, refl, inl, inr, ◌==◌, eq-eqb, ◌++◌}
-use Rattle.std.proofs.Common.{append_assoc, append-nil}
+use Rattle.std.proofs.Common.{◌≡◌, ℕ, zero, suc, ◌+◌, ◌<◌, List, [], ◌∷◌, length, Option, Some, None, get_or, sym}
+use Rattle.std.proofs.Common.{◌∙◌, ap, subst, arith, ◌≤◌, Bool, true, false, refl, inl, inr, ◌==◌, eq-eqb, ◌++◌}
+use Rattle.std.proofs.Common.{append_assoc, append-nil, ◌-◌}
 use Rattle.std.specs.Prelude.{is_some, nat_le, reverse, is_none, ◌&&◌, ℤ, not, ◌||◌, nat_lt, if◌then◌else◌}
 use Rattle.std.proofs.lemmas.Bool.Decides.{nat_tests}
 use Rattle.std.proofs.lemmas.Bool.{cases_Bool}
@@ -11,29 +11,32 @@ use Rattle.std.specs.List.{AllByRecursion}
 use Rattle.twkb_points.specs.Point.{Point, AreInRange}
 use Rattle.twkb_tree.specs.declared.kind.Kind.{Kind}
 use Rattle.twkb_tree.specs.declared.open_rows.OpenRow.{OpenRow}
-use Rattle.twkb_tree.specs.Rows.{Row, rows, rows_of, own_row}
+use Rattle.twkb_tree.specs.Rows.{Row, rows, rows_of, own_row, AreRowsOfOne, AreValid, AreValidRowsOfOne}
 use Rattle.twkb_tree.specs.Admits.{last_at, steps_to, parent, first_child, first_below, or_else, fits, IsAdmitted}
 use Rattle.twkb_tree.specs.Admits.{has_place, is_collection, is_geometry, has_points, id_in_range, id_allowed}
 use Rattle.twkb_tree.specs.Admits.{has_same_ids, precision_in_range, has_needed_precision, precision_allowed}
-use Rattle.twkb_tree.specs.Admits.{precision_fits, points_fit}
+use Rattle.twkb_tree.specs.Admits.{precision_fits, points_fit, since_root, geometry_rows, point_count, nest_kept}
+use Rattle.twkb_tree.specs.Admits.{Accepts, IsOneRoot, Continues}
 use Rattle.twkb_tree.specs.Open.{ids_by, IsOpenAt, AreOpenFrom, AreOpen, open_parent, row_of, child_by, child_of}
 use Rattle.twkb_tree.specs.Open.{count_at, open_refusal_at, open_refusal, open_count, first_answer, opened, is_next}
-use Rattle.twkb_tree.specs.Open.{open_continues}
+use Rattle.twkb_tree.specs.Open.{open_continues, row_place_at, field_checks, points_checks, row_checks}
 use Rattle.twkb_tree.specs.declared.kind.Kind.TheVariants as kind
 use Rattle.twkb_tree.specs.Limits.{Allowance, IsValid}
-use Rattle.twkb_tree.specs.Accepted.{since_root, geometry_rows, point_count, nest_kept, Accepts, IsOneRoot, Continues}
 use Rattle.twkb_tree.specs.Refusal.{checks_under, checks_at, first_failed, refusal_after, refusal, is_one_root}
-use Rattle.twkb_tree.specs.Refusal.{continues, Check, are_in_range, has_none, accepts}
+use Rattle.twkb_tree.specs.Refusal.{continues, Check, are_in_range, has_none, accepts, place_checks, id_checks}
+use Rattle.twkb_tree.specs.Refusal.{precision_checks}
 use Rattle.twkb_tree.specs.declared.row_checks.Refusal.{Refusal}
 use Rattle.twkb_tree.specs.declared.row_checks.Refusal.TheVariants.{BadPlace}
-use Rattle.twkb_tree.specs.RowLists.{AreRowsOfOne, AreValid, AreValidRowsOfOne}
 use Rattle.twkb_tree.specs.Tree.{Tree}
 use Rattle.twkb_tree.proofs.RowForest.{within_test, both_true, both, below_test, test_below, test_within, facts}
 use Rattle.twkb_tree.proofs.RowForest.{fits_by, none_fit, are_in_range-true, points_in_range}
 use Rattle.twkb_tree.proofs.RowSteps.{last_at-other, first_below-other, other_depth}
-use Rattle.twkb_tree.proofs.RowLaws.{admitted_rows, as_list, rest_deep, root_depth, below_root}
+use Rattle.twkb_tree.proofs.RowLaws.{admitted_rows, as_list, rest_deep, root_depth, below_root, since_root-over}
+use Rattle.twkb_tree.proofs.RowLaws.{deep_reverse, weight-onto}
 use Rattle.twkb_tree.proofs.LimitLaws.{one_since_root, continued}
-use Rattle.twkb_tree.proofs.RowSums.{since_root-over, deep_reverse, weight-onto}
+use Rattle.twkb_tree.specs.declared.row_place.RowPlace.{RowPlace}
+
+-- ==== The open rows decide which row may come next, and an accepted row moves them on.
 
 -- ==== What the open rows say of the rows so far: enough to decide about the next row.
 
@@ -668,3 +671,65 @@ grown_geometry l gs g r v accepts below =
     ∙ ap (λ rs. rows_of gs ++ rs) b.1) accepts in
     let grown = grown_from l (rows_of gs) (own_row None 0 g) b.0 r (g, valid.tree, b.1) (g, valid, b.1) there below in
     (grown.0, grown.1, grown.2 ∙ ap (λ rs. rs ++ r ∷ []) (sym b.1))
+
+-- ==== The place of the next row by the open rows, and the first test of a row that fails.
+
+-- a root has no parent
+pub root_stands : (d : ℕ) (rows : List OpenRow) (nodes points : ℕ) → d ≡ 0 → (d ≤ length rows)
+    × ◌≡◌ {A = RowPlace} (record { depth = d; parent = None; nodes = 0; points = 0 })
+    (row_place_at d rows nodes points)
+root_stands zero rows nodes points e = (omega arith, rw (no_open_parent rows) refl)
+root_stands (suc d) rows nodes points e = absurd (omega arith)
+
+-- any other row's parent is the open row one level above it
+pub below_stands : (d : ℕ) (rows : List OpenRow) (nodes points : ℕ) (blank : OpenRow) → (d ≡ 0 → ⊥)
+    → d - 1 < length rows
+    → (d ≤ length rows) × ◌≡◌ {A = RowPlace}
+    (record {
+      depth = d;
+      parent = Some (get_or rows (d - 1) blank);
+      nodes = nodes;
+      points = points;
+    }) (row_place_at d rows nodes points)
+below_stands zero rows nodes points blank deep lt = absurd (deep refl)
+below_stands (suc d) rows nodes points blank deep lt =
+    let above : suc d - 1 ≡ d = omega arith in
+    (omega arith, rw (above, open_parent_at d rows blank (omega arith)) refl)
+
+-- ---- the first test of a row that fails
+
+-- the first reason, if there is one; otherwise the second
+abbrev pub first_else : Option Refusal → Option Refusal → Option Refusal
+first_else None other = other
+first_else (Some why) other = Some why
+
+-- the first test that fails is one of the first tests, or one of the others
+pub first_failed-append : (checks more : List Check)
+    → first_failed (checks ++ more) ≡ first_else (first_failed checks) (first_failed more)
+first_failed-append [] more = refl
+first_failed-append (c ∷ checks) more = elim (cases_Bool c.holds) [
+  | inl holds ↦ rw holds (first_failed-append checks more)
+  | inr fails ↦ rw fails refl
+]
+
+-- the first test of a row's fields that fails is one of its place, its id or its precision
+pub in_fields : (l : Allowance) (s : RowPlace) (r : Row) (place id precision : Option Refusal)
+    → place ≡ first_failed (place_checks l true (row_of s.parent) s.nodes s.depth r.kind)
+    → id ≡ first_failed (id_checks (row_of s.parent) (child_of s.parent) r)
+    → precision ≡ first_failed (precision_checks (row_of s.parent) r)
+    → first_else place (first_else id precision) ≡ first_failed (field_checks l s r)
+in_fields l s r place id precision a b c =
+    let precisions = precision_checks (row_of s.parent) r in
+    let ids = id_checks (row_of s.parent) (child_of s.parent) r in
+    let places = place_checks l true (row_of s.parent) s.nodes s.depth r.kind in
+    rw (a, b, c) (sym (first_failed-append places (ids ++ precisions)
+    ∙ ap (first_else (first_failed places)) (first_failed-append ids precisions)))
+
+-- the first test of a row that fails is one of its fields or of its points
+pub in_row : (in_range : Bool) (l : Allowance) (s : RowPlace) (r : Row)
+    (fields points : Option Refusal)
+    → fields ≡ first_failed (field_checks l s r)
+    → points ≡ first_failed (points_checks in_range l s r)
+    → first_else fields points ≡ first_failed (row_checks in_range l s r)
+in_row in_range l s r fields points a b =
+    rw (a, b) (sym (first_failed-append (field_checks l s r) (points_checks in_range l s r)))

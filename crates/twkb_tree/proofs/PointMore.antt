@@ -1,22 +1,28 @@
--- A line may get one more point as long as the limits allow it.
-use Rattle.std.proofs.Common.{◌≡◌, ◌+◌, ◌<◌, Bool, true, false, List, [], ◌∷◌, ◌++◌, length}
-use Rattle.std.proofs.Common.{length-append, Option, refl, sym, ◌∙◌, ap, subst, inl, inr, arith}
-use Rattle.std.specs.Prelude.{reverse, ◌⊎◌, ◌&&◌}
+-- A line may get one more point as long as the limits allow it, and no other row changes.
+use Rattle.std.proofs.Common.{◌≡◌, List, [], ◌∷◌, ◌++◌, refl, ap, ◌+◌, ◌<◌, Bool, true, false, length, length-append}
+use Rattle.std.proofs.Common.{Option, sym, ◌∙◌, subst, inl, inr, arith}
 use Rattle.twkb_points.specs.Point.{Point, IsInRange, AreInRange}
+use Rattle.twkb_tree.specs.Rows.{Row, row_points, AreValidRowsOfOne}
+use Rattle.twkb_tree.specs.RowGrowth.{with_point, point_added, EndsInLine}
+use Rattle.std.specs.Prelude.{reverse, ◌⊎◌, ◌&&◌}
 use Rattle.twkb_tree.specs.Limits.{Allowance}
 use Rattle.twkb_tree.specs.declared.kind.Kind.{Kind}
 use Rattle.twkb_tree.specs.declared.kind.Kind.TheVariants as kinds
-use Rattle.twkb_tree.specs.Rows.{Row, row_points}
-use Rattle.twkb_tree.specs.RowGrowth.{with_point, point_added, EndsInLine}
-use Rattle.twkb_tree.specs.Admits.{points_fit, fits, is_geometry, has_place, id_in_range, id_allowed}
-use Rattle.twkb_tree.specs.Admits.{has_same_ids, precision_in_range, precision_fits, steps_to}
-use Rattle.twkb_tree.specs.Admits.{parent, first_child}
-use Rattle.twkb_tree.specs.Accepted.{Accepts, IsOneRoot, geometry_rows, point_count}
-use Rattle.twkb_tree.specs.RowLists.{AreValidRowsOfOne}
-use Rattle.twkb_tree.proofs.PointAdded.{point_last}
+use Rattle.twkb_tree.specs.Admits.{points_fit, fits, is_geometry, has_place, id_in_range, id_allowed, has_same_ids}
+use Rattle.twkb_tree.specs.Admits.{precision_in_range, precision_fits, steps_to, parent, first_child, Accepts}
+use Rattle.twkb_tree.specs.Admits.{IsOneRoot, geometry_rows, point_count}
 use Rattle.twkb_tree.proofs.LimitLaws.{continued, continues_row, one_valid_front, of_one, one_geometry_rows}
 use Rattle.twkb_tree.proofs.RowLaws.{length-row_points, row_points-append}
 use Rattle.twkb_tree.proofs.OpenLaws.{point_count-reverse}
+
+-- ==== Adding a point to the last row changes no other row.
+
+-- one more point goes to the last row
+pub point_last : (p : Point) (rs : List Row) (r : Row) → point_added p (rs ++ r ∷ []) ≡ rs ++ with_point r p ∷ []
+point_last p (s ∷ t ∷ rs) r = ap (λ l. s ∷ l) (point_last p (t ∷ rs) r)
+point_last p _ r = refl
+
+-- ==== A line may get one more point as long as the limits allow it.
 
 -- a line fits any number of points
 pub line_fits : (k : Kind) (whole : Bool) (ps : List Point) → (k ≡ kinds.Linestring)

@@ -1,8 +1,9 @@
--- The rows of geometries: their points and nesting, and where a geometry begins and ends.
-use Rattle.std.proofs.Common.{◌≡◌, ℕ, suc, List, [], ◌∷◌, ◌++◌, length, Option, Some, None, refl, sym, ◌∙◌, ap, subst}
-use Rattle.std.proofs.Common.{arith, length-append, append_assoc, append-nil, ◌+◌, ◌≤◌, true, false, ◌<◌}
-use Rattle.std.specs.Prelude.{ℤ, flat_map, ⊤, nat_le, reverse}
+-- The rows of geometries: their points, nesting and sums, and where a geometry begins and ends.
+use Rattle.std.proofs.Common.{List, [], ◌∷◌, ◌++◌, ◌≡◌, ℕ, suc, length, Option, Some, None, refl, sym, ◌∙◌, ap, subst}
+use Rattle.std.proofs.Common.{arith, length-append, append_assoc, append-nil, ◌+◌, ◌≤◌, true, false, ◌<◌, zero, ◌==◌}
+use Rattle.std.proofs.Common.{eq-eqb, ne_eqb}
 use Rattle.std.specs.List.{AllByRecursion}
+use Rattle.std.specs.Prelude.{ℤ, flat_map, ⊤, nat_le, reverse}
 use Rattle.std.proofs.lemmas.Bool.Decides.{nat_tests}
 use Rattle.std.proofs.lemmas.List.{reverse-reverse, reverse-append}
 use Rattle.twkb_points.specs.Point.{Point, IsInRange, AreInRange}
@@ -11,17 +12,36 @@ use Rattle.twkb_tree.specs.Tree.{multi_point, multi_line, multi_polygon, flat, f
 use Rattle.twkb_tree.specs.Tree.{members, AreTrees, nest, nest_all, IsTree}
 use Rattle.twkb_tree.specs.Rows.{Row, rows, rows_with, member_rows, rows_below, ring_rows, row_points, own_points}
 use Rattle.twkb_tree.specs.Rows.{first_id, other_ids, rows_of, own_row, plain_row, polygon_rows, rows_of_each}
-use Rattle.twkb_tree.specs.Accepted.{point_count, nest_kept, IsOneRoot}
-use Rattle.twkb_tree.specs.RowLists.{AreGeometries, AreRows, AreRowsOfOne, IsAtRoot, IsAbove}
+use Rattle.twkb_tree.specs.Rows.{AreGeometries, AreRows, AreRowsOfOne, IsAtRoot, IsAbove, AreValid, AreValidRows}
+use Rattle.twkb_tree.specs.Rows.{IsShallow, AreShallow}
+use Rattle.twkb_tree.specs.Admits.{point_count, nest_kept, IsOneRoot, is_collection, admits, IsAdmitted, since_root}
+use Rattle.twkb_tree.specs.Admits.{geometry_rows, weight}
 use Rattle.twkb_tree.specs.Limits.{Allowance}
-use Rattle.twkb_tree.specs.Admits.{is_collection, admits, IsAdmitted}
 use Rattle.twkb_tree.specs.declared.kind.Kind.TheVariants as kind
-use Rattle.twkb_tree.proofs.AllJoined.{all_join, all_apart}
 use Rattle.twkb_tree.proofs.RowForest.{Nodes, none, each_nodes, ring_nodes, simple_below, member_nodes, tree_below}
 use Rattle.twkb_tree.proofs.RowForest.{listed, past, trees_from, node, IsDeep, Fit, rebuilt}
 use Rattle.twkb_tree.proofs.RowSteps.{own_row-depth, fit_roots, simple_kind, trees_back, Locally, past-listed}
 use Rattle.twkb_tree.proofs.RowSteps.{forest_of, past-forest_of, forest_fits, rows_admitted, fit_deep, one_forest}
-use Rattle.twkb_tree.proofs.RowSteps.{listed-members}
+use Rattle.twkb_tree.proofs.RowSteps.{listed-members, onto-append, Along}
+use mathlib.Core.List.{reverse_aux}
+use Rattle.std.proofs.lemmas.Grind.{reverse_onto}
+
+-- ==== A fact that holds of each item of two lists holds of each item of the joined list, and the
+-- other way round.
+
+-- the fact holds of each item of the joined list
+pub all_join : {X : Type 0} (P : X → Type 0) (xs ys : List X) → AllByRecursion P xs
+    → AllByRecursion P ys → AllByRecursion P (xs ++ ys)
+all_join P [] ys a b = b
+all_join P (x ∷ xs) ys a b = (a.0, all_join P xs ys a.1 b)
+
+-- the fact holds of each item of both parts
+pub all_apart : {X : Type 0} (P : X → Type 0) (xs ys : List X) → AllByRecursion P (xs ++ ys)
+    → AllByRecursion P xs × AllByRecursion P ys
+all_apart P [] ys h = (tt, h)
+all_apart P (x ∷ xs) ys h = let t = all_apart P xs ys h.1 in ((h.0, t.0), t.1)
+
+-- ==== The rows of geometries: their points and nesting, and where a geometry begins and ends.
 
 -- ==== The points of a geometry are those of its rows, in order.
 
@@ -497,3 +517,168 @@ first_all_ended (g ∷ gs) more hs t a root e =
     let are : AreGeometries (g ∷ rest) = subst AreGeometries first a in
     let (left, second, last) = first_all_ended gs more rest t.1 are.1 root (sym others) in
     (left, first ∙ ap (λ ks. g ∷ ks) second, last)
+
+-- ==== Sums over the rows of one geometry: along the rows, and over the geometry.
+
+-- the sum over the row and the rows of its geometry before it is at most `most`
+abbrev pub Adds : (Row → ℕ) → ℕ → List Row → Row → Type 0
+Adds w most before r = weight w (geometry_rows r.depth before) + w r ≤ most
+
+-- the rows back to the root
+pub since_root-over : (ys : List Row) (own : Row) (before : List Row) → AreDeep 1 ys → own.depth ≡ 0
+    → since_root (ys ++ own ∷ before) ≡ ys ++ own ∷ []
+since_root-over [] own before deep e = let t : (own.depth == 0) ≡ true = eq-eqb own.depth 0 e in rw t refl
+since_root-over (y ∷ ys) own before deep e =
+    let t : (y.depth == 0) ≡ false = ne_eqb y.depth 0 (λ z. omega (arith, deep.0)) in
+    rw t (ap (λ rs. y ∷ rs) (since_root-over ys own before deep.1 e))
+
+-- below a root all rows since it are counted
+pub geometry_rows-deep : (d : ℕ) (before : List Row) → 1 ≤ d → geometry_rows d before ≡ since_root before
+geometry_rows-deep zero before h = absurd (omega arith)
+geometry_rows-deep (suc d) before h = refl
+
+-- the sum over joined rows
+pub weight-append : (w : Row → ℕ) (xs ys : List Row) → weight w (xs ++ ys) ≡ weight w xs + weight w ys
+weight-append w [] ys = omega arith
+weight-append w (x ∷ xs) ys = omega (arith, weight-append w xs ys)
+
+-- the sum over the rows before a row below the root
+adds_here : (w : Row → ℕ) (y own : Row) (ys before : List Row) → AreDeep 1 (y ∷ ys) → own.depth ≡ 0
+    → weight w (geometry_rows y.depth (ys ++ own ∷ before)) ≡ weight w ys + w own
+adds_here w y own ys before deep e =
+    ap (weight w) (geometry_rows-deep y.depth (ys ++ own ∷ before) deep.0 ∙ since_root-over ys own before deep.1 e)
+    ∙ weight-append w ys (own ∷ []) ∙ omega arith
+
+-- for a root there are no rows before it
+adds_own : (w : Row → ℕ) (own : Row) (before : List Row) → own.depth ≡ 0 → weight w (geometry_rows own.depth before) ≡ 0
+adds_own w own before e = ap (λ d. weight w (geometry_rows d before)) e
+
+-- the sum along the rows of one geometry bounds the sum over it
+total_of : (w : Row → ℕ) (most : ℕ) (ys : List Row) (own : Row) (before : List Row) → AreDeep 1 ys
+    → own.depth ≡ 0 → Along (Adds w most) (ys ++ own ∷ before) → (weight w ys + w own ≤ most)
+    × Along (Adds w most) before
+total_of w most [] own before deep e a = (omega (arith, a.0, adds_own w own before e), a.1)
+total_of w most (y ∷ ys) own before deep e a =
+    (omega (arith, a.0, adds_here w y own ys before deep e), (total_of w most ys own before deep.1 e a.1).1)
+
+-- the sum over one geometry bounds the sums along its rows
+of_total : (w : Row → ℕ) (most : ℕ) (ys : List Row) (own : Row) (before : List Row) → AreDeep 1 ys
+    → own.depth ≡ 0 → weight w ys + w own ≤ most → Along (Adds w most) before
+    → Along (Adds w most) (ys ++ own ∷ before)
+of_total w most [] own before deep e le a = (omega (arith, adds_own w own before e), a)
+of_total w most (y ∷ ys) own before deep e le a =
+    (omega (arith, adds_here w y own ys before deep e), of_total w most ys own before deep.1 e (omega arith) a)
+
+-- reversed rows are as deep
+pub deep_reverse : (xs ys : List Row) → AreDeep 1 xs → AreDeep 1 ys → AreDeep 1 (reverse_aux xs ys)
+deep_reverse [] ys h g = g
+deep_reverse (x ∷ xs) ys h g = deep_reverse xs (x ∷ ys) h.1 (h.0, g)
+
+-- reversed rows have the same sum
+pub weight-onto : (w : Row → ℕ) (xs ys : List Row) → weight w (reverse_aux xs ys) ≡ weight w xs + weight w ys
+weight-onto w [] ys = omega arith
+weight-onto w (x ∷ xs) ys = omega (arith, weight-onto w xs (x ∷ ys))
+
+-- the rows of a geometry, on top of the rows before it
+pub record Onto (g : Tree) (before : List Row) : Type 0 where
+  pub own : Row
+  pub above : List Row
+  pub same : reverse_aux (rows 0 g) before ≡ above ++ own ∷ before
+  pub deep : AreDeep 1 above
+  pub root : own.depth ≡ 0
+  pub weighs : (w : Row → ℕ) → weight w above + w own ≡ weight w (rows 0 g)
+
+-- each geometry has its rows on top of the rows before it
+onto : (g : Tree) (before : List Row) → IsTree g → Onto g before
+onto g before t =
+    let b = below_root g t in
+    record {
+      own = own_row None 0 g;
+      above = reverse b.0;
+      same = ap (λ rs. reverse_aux rs before) b.1 ∙ reverse_onto b.0 (own_row None 0 g) before;
+      deep = deep_reverse b.0 [] b.2 tt;
+      root = own_row-depth None 0 g;
+      weighs = λ w. (let e = ap (weight w) b.1 in omega (arith, e, weight-onto w b.0 []));
+    }
+
+-- the sum over the rows of each member is at most `most`
+abbrev pub TotalAll : (Row → ℕ) → ℕ → Trees → Type 0
+TotalAll w most end = ⊤
+TotalAll w most (g ▷ gs) = (weight w (rows 0 g) ≤ most) × TotalAll w most gs
+
+-- the sum over each member is bounded if the sums along the rows are
+pub totals : (w : Row → ℕ) (most : ℕ) (gs : Trees) (before : List Row) → AreTrees gs
+    → Along (Adds w most) (reverse_aux (rows_all gs) before) → TotalAll w most gs
+    × Along (Adds w most) before
+totals w most end before t a = (tt, a)
+totals w most (g ▷ gs) before t a =
+    let o = onto g before t.0 in
+    let split : reverse_aux (rows_all (g ▷ gs)) before ≡ reverse_aux (rows_all gs) (o.above ++ o.own ∷ before) =
+    onto-append (rows 0 g) (rows_all gs) before ∙ ap (reverse_aux (rows_all gs)) o.same in
+    let rest = totals w most gs (o.above ++ o.own ∷ before) t.1 (subst (Along (Adds w most)) split a) in
+    let one = total_of w most o.above o.own before o.deep o.root rest.1 in
+    ((omega (arith, one.0, o.weighs w), rest.0), one.1)
+
+-- the sums along the rows are bounded if the sum over each member is
+pub of_totals : (w : Row → ℕ) (most : ℕ) (gs : Trees) (before : List Row) → AreTrees gs
+    → TotalAll w most gs → Along (Adds w most) before
+    → Along (Adds w most) (reverse_aux (rows_all gs) before)
+of_totals w most end before t h a = a
+of_totals w most (g ▷ gs) before t h a =
+    let o = onto g before t.0 in
+    let split : reverse_aux (rows_all (g ▷ gs)) before ≡ reverse_aux (rows_all gs) (o.above ++ o.own ∷ before) =
+    onto-append (rows 0 g) (rows_all gs) before ∙ ap (reverse_aux (rows_all gs)) o.same in
+    subst (Along (Adds w most)) (sym split) (of_totals w most gs (o.above ++ o.own ∷ before) t.1 h.1
+    (of_total w most o.above o.own before o.deep o.root (omega (arith, h.0, o.weighs w)) a))
+
+-- ==== No row of a valid geometry is more than two levels below its deepest member.
+
+-- the rows of parts are shallow
+shallow_each : {A : Type 0} (n : ℕ) (f : Option ℤ → A → List Row) (ids : Ids) (xs : List A)
+    → ((id : Option ℤ) (x : A) → AreShallow n (f id x)) → AreShallow n (rows_of_each f ids xs)
+shallow_each n f ids [] h = tt
+shallow_each n f ids (x ∷ xs) h = all_join (IsShallow n) (f (first_id ids) x)
+    (rows_of_each f (other_ids ids) xs) (h (first_id ids) x) (shallow_each n f (other_ids ids) xs h)
+
+-- the rows of rings at this depth are shallow
+shallow_rings : (n d : ℕ) (rings : List (List Point)) → d ≤ n → AreShallow n (ring_rows d rings)
+shallow_rings n d rings le = shallow_each n (λ none ring. plain_row d kind.Ring none ring ∷ []) None
+    rings (λ id ring. (le, tt))
+
+-- the rows below a simple shape are shallow
+shallow_below : (n d : ℕ) (s : Simple) → suc d ≤ n → AreShallow n (rows_below d s)
+shallow_below n d (polygon rings) le = shallow_rings n d rings (omega arith)
+shallow_below n d (multi_point ids ps) le = let here : d ≤ n = omega arith in
+    shallow_each n (λ id p. plain_row d kind.Point id (p ∷ []) ∷ []) ids ps (λ id p. (here, tt))
+shallow_below n d (multi_line ids lines) le = let here : d ≤ n = omega arith in
+    shallow_each n (λ id ps. plain_row d kind.Linestring id ps ∷ []) ids lines (λ id ps. (here, tt))
+shallow_below n d (multi_polygon ids areas) le = let here : d ≤ n = omega arith in
+    shallow_each n (polygon_rows d) ids areas (λ id rings. (here, shallow_rings n (suc d) rings le))
+shallow_below n d _ le = tt
+
+mutual
+  shallow_with : (n d : ℕ) (id : Option ℤ) (g : Tree) → d + nest g + 2 ≤ n → AreShallow n (rows_with id d g)
+  shallow_with n d id (simple q s) le = (omega arith, shallow_below n (suc d) s (omega arith))
+  shallow_with n d id (collection q ids gs) le = (omega arith, shallow_members n d ids gs le)
+
+  shallow_members : (n d : ℕ) (ids : Ids) (gs : Trees) → d + nest_all gs + 2 ≤ n
+      → AreShallow n (member_rows (suc d) ids gs)
+  shallow_members n d ids end le = tt
+  shallow_members n d ids (g ▷ gs) le =
+      let one : suc d + nest g + 2 ≤ n = omega arith in
+      let others : d + nest_all gs + 2 ≤ n = omega arith in
+      all_join (IsShallow n) (rows_with (first_id ids) (suc d) g)
+      (member_rows (suc d) (other_ids ids) gs) (shallow_with n (suc d) (first_id ids) g one)
+      (shallow_members n d (other_ids ids) gs others)
+
+-- the rows of a list of valid geometries are shallow
+shallow_list : (l : Allowance) (gs : List Tree) → AreValid l gs → AreShallow (l.nest + 2) (rows_of gs)
+shallow_list l [] v = tt
+shallow_list l (g ∷ gs) v =
+    let kept = v.0.nest_kept in
+    all_join (IsShallow (l.nest + 2)) (rows 0 g) (rows_of gs)
+    (shallow_with (l.nest + 2) 0 None g (omega arith)) (shallow_list l gs v.1)
+
+-- the rows of valid geometries are shallow
+pub valid_depths : (l : Allowance) (rs : List Row) → AreValidRows l rs → AreShallow (l.nest + 2) rs
+valid_depths l rs v = subst (AreShallow (l.nest + 2)) v.2 (shallow_list l v.0 v.1)

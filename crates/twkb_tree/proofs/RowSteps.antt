@@ -6,10 +6,9 @@ use Rattle.std.specs.Prelude.{reverse, ⊤, ◌&&◌, ℤ, is_some}
 use Rattle.std.proofs.lemmas.Bool.Decides.{nat_tests}
 use Rattle.twkb_points.specs.Point.{Point}
 use Rattle.twkb_tree.specs.Rows.{Row, plain_row, own_row, first_id, other_ids, ring_rows, rows_of_each, rows_below}
-use Rattle.twkb_tree.specs.Rows.{rows_with, member_rows, kind_in, own_points}
+use Rattle.twkb_tree.specs.Rows.{rows_with, member_rows, kind_in, own_points, IsAbove}
 use Rattle.twkb_tree.specs.Admits.{last_at, first_below, or_else, parent, first_child, steps_to, fits, admits_after}
 use Rattle.twkb_tree.specs.Admits.{IsAdmitted, has_same_ids, id_in_range, is_collection}
-use Rattle.twkb_tree.specs.RowLists.{IsAbove}
 use Rattle.twkb_tree.specs.Tree.{Tree, Trees, Simple, Ids, simple, collection, end, ◌▷◌, point, line, polygon}
 use Rattle.twkb_tree.specs.Tree.{multi_point, multi_line, multi_polygon, IsTree, AreTrees, AreIds, HasIds, IdsFit}
 use Rattle.twkb_tree.specs.Tree.{count, members}

@@ -1,21 +1,15 @@
 -- The definitions of the crate, by their topic.
-pub mod Accepted
 pub mod Admits
-pub mod Equal
-pub mod InRange
-pub mod Kind
+pub mod TreeCode
 pub mod Limits
+pub mod Kind
 pub mod Open
 pub mod Refusal
 pub mod RowGrowth
 pub mod RowLemmas
-pub mod RowLists
-pub mod RowSamples
 pub mod Rows
+pub mod RowSamples
 pub mod Shape
 pub mod Size
 pub mod SizeFalls
-pub mod RowPlace
 pub mod Tree
-pub mod TreeCode
-pub mod Uniform

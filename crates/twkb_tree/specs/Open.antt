@@ -1,14 +1,20 @@
--- The open rows: what a reader keeps of the rows so far, the root first, and the test of a row by
--- them.
-use Rattle.std.specs.Prelude.{◌≡◌, ℕ, zero, suc, pos, List, [], ◌∷◌, length, Option, Some, None}
-use Rattle.std.specs.Prelude.{Bool, true, false, ◌&&◌, ◌==◌, is_some, is_none, nat_le, nat_lt, ⊤}
+-- The open rows, which decide the place of the next row, and the tests of a row there.
+use Rattle.std.specs.Prelude.{◌≡◌, ℕ, zero, suc, pos, List, [], ◌∷◌, length, Option, Some, None, Bool, true, false}
+use Rattle.std.specs.Prelude.{◌&&◌, ◌==◌, is_some, is_none, nat_le, nat_lt, ⊤, ◌+◌, ℤ, ◌||◌, ◌++◌}
 use Rattle.twkb_tree.specs.declared.kind.Kind.{Kind}
 use Rattle.twkb_tree.specs.declared.open_rows.OpenRow.{OpenRow}
 use Rattle.twkb_tree.specs.Rows.{Row}
 use Rattle.twkb_tree.specs.Limits.{Allowance}
-use Rattle.twkb_tree.specs.Admits.{last_at, first_below}
-use Rattle.twkb_tree.specs.Refusal.{checks_under, first_failed}
+use Rattle.twkb_tree.specs.Admits.{last_at, first_below, has_points}
+use Rattle.twkb_tree.specs.Refusal.{checks_under, first_failed, Check, check, has_none, place_checks, id_checks}
+use Rattle.twkb_tree.specs.Refusal.{precision_checks, count_checks}
 use Rattle.twkb_tree.specs.declared.row_checks.Refusal.{Refusal}
+use Rattle.twkb_points.specs.Point.{Point}
+use Rattle.twkb_tree.specs.declared.row_place.RowPlace.{RowPlace}
+use Rattle.twkb_tree.specs.declared.row_checks.Refusal.TheVariants.{PointsNotAllowed, CoordinateRange, TooManyPoints}
+
+-- ==== The open rows: what a reader keeps of the rows so far, the root first, and the test of a row
+-- by them.
 
 -- whether the row has an id, if there is a row
 abbrev pub ids_by : Option Row → Option Bool
@@ -102,3 +108,44 @@ is_next (o ∷ os) r = nat_lt 0 r.depth
 -- the row may come next after one geometry's rows, with these counts, and belongs to that geometry
 abbrev pub open_continues : Allowance → List OpenRow → ℕ → ℕ → Row → Bool
 open_continues l os nodes points r = is_none (open_refusal l os nodes points r) && is_next os r
+
+-- ==== The place of the next row, by the open rows, and the tests of a row there.
+
+-- the place of a row at this depth, from the open rows and the counts of rows and points since
+-- the last root
+abbrev pub row_place_at : ℕ → List OpenRow → ℕ → ℕ → RowPlace
+row_place_at depth rows nodes points = record {
+  depth = depth;
+  parent = open_parent depth rows;
+  nodes = count_at depth nodes;
+  points = count_at depth points;
+}
+
+-- the row with these fields at this place, whose depth it has
+abbrev pub row_there : RowPlace → Kind → Option ℤ → Option ℤ → List Point → Row
+row_there s k id precision points = record {
+  depth = s.depth;
+  kind = k;
+  id = id;
+  precision = precision;
+  points = points;
+}
+
+-- the tests of a row's place, its id and its precision
+abbrev pub field_checks : Allowance → RowPlace → Row → List Check
+field_checks l s r =
+    place_checks l true (row_of s.parent) s.nodes s.depth r.kind
+    ++ (id_checks (row_of s.parent) (child_of s.parent) r ++ precision_checks (row_of s.parent) r)
+
+-- the tests of a row's points at its place, given whether their coordinates are in range
+abbrev pub points_checks : Bool → Allowance → RowPlace → Row → List Check
+points_checks in_range l s r =
+    check (has_points r.kind || has_none r.points) PointsNotAllowed
+    ∷ check in_range CoordinateRange
+    ∷ check (nat_le (s.points + length r.points) l.points) TooManyPoints
+    ∷ count_checks (row_of s.parent) r
+
+-- all tests of a row at its place, in order, given whether the coordinates of its points are in
+-- range
+abbrev pub row_checks : Bool → Allowance → RowPlace → Row → List Check
+row_checks in_range l s r = field_checks l s r ++ points_checks in_range l s r

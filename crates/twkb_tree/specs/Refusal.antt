@@ -8,10 +8,9 @@ use Rattle.twkb_points.specs.Point.{Point}
 use Rattle.twkb_tree.specs.declared.kind.Kind.{Kind}
 use Rattle.twkb_tree.specs.Limits.{Allowance}
 use Rattle.twkb_tree.specs.Rows.{Row}
-use Rattle.twkb_tree.specs.Admits.{parent, first_child, steps_to, has_place, id_in_range}
-use Rattle.twkb_tree.specs.Admits.{id_allowed, has_same_ids, precision_in_range, is_geometry}
-use Rattle.twkb_tree.specs.Admits.{has_needed_precision, precision_allowed, has_points, points_fit}
-use Rattle.twkb_tree.specs.Accepted.{nest_kept, geometry_rows, point_count}
+use Rattle.twkb_tree.specs.Admits.{parent, first_child, steps_to, has_place, id_in_range, id_allowed, has_same_ids}
+use Rattle.twkb_tree.specs.Admits.{precision_in_range, is_geometry, has_needed_precision, precision_allowed}
+use Rattle.twkb_tree.specs.Admits.{has_points, points_fit, nest_kept, geometry_rows, point_count}
 use Rattle.twkb_tree.specs.declared.row_checks.Refusal.{Refusal}
 use Rattle.twkb_tree.specs.declared.row_checks.Refusal.TheVariants.{BadPlace, TooDeep, TooManyNodes, BadId}
 use Rattle.twkb_tree.specs.declared.row_checks.Refusal.TheVariants.{IdNotAllowed, MixedIds, BadPrecision}

@@ -6,8 +6,8 @@ use Rattle.twkb_tree.specs.Tree.{Ids, Simple, point, line, polygon, multi_point,
 use Rattle.twkb_tree.specs.Tree.{multi_polygon, Tree, simple, collection, Trees, end, ◌▷◌, nodes_in}
 use Rattle.twkb_tree.specs.Tree.{area_nodes, nodes, nodes_all}
 use Rattle.twkb_tree.specs.declared.kind.Kind.TheVariants as Kind
-use Rattle.twkb_tree.specs.Rows.{Row, plain_row, rows_of_each, rows_with, rows_below, member_rows}
-use Rattle.twkb_tree.specs.Rows.{polygon_rows, first_id, other_ids}
+use Rattle.twkb_tree.specs.Rows.{Row, plain_row, rows_of_each, rows_with, rows_below, member_rows, polygon_rows}
+use Rattle.twkb_tree.specs.Rows.{first_id, other_ids}
 
 -- each item gives one row, so there are as many rows as items
 length-rows_of_one : {A : Type 0} (f : Option ℤ → A → Row) (ids : Ids) (xs : List A)

@@ -3,7 +3,7 @@ use Rattle.std.specs.Prelude.{ℤ, length, None, Some, ⊤}
 use Rattle.twkb_points.specs.Point.{IsInRange, AreInRange}
 use Rattle.twkb_tree.specs.Tree.{Tree, simple, collection, point, line, polygon, multi_point}
 use Rattle.twkb_tree.specs.Tree.{multi_line, multi_polygon, trees, HasIds, AreTrees}
-use Rattle.twkb_tree.specs.InRange.{LinesAreInRange, AreasAreInRange, AreTreesInRange}
+use Rattle.twkb_tree.specs.Limits.{LinesAreInRange, AreasAreInRange, AreTreesInRange}
 use Rattle.twkb_tree.specs.declared.geometry.Shape.{Shape}
 use Rattle.twkb_tree.specs.declared.geometry.Shape.TheVariants.{Point, Line, Polygon, MultiPoint}
 use Rattle.twkb_tree.specs.declared.geometry.Shape.TheVariants.{MultiLine, MultiPolygon, Collection}

@@ -1,6 +1,6 @@
 //! Equality of geometries.
 ghost use Rattle.std.specs.Prelude.{◌≡◌, ◌↔◌, IsTrue};
-ghost use Rattle.twkb_tree.specs.Equal.{tree_eq, tree_eq_partial, tree_eq_equiv};
+ghost use Rattle.twkb_tree.specs.TreeCode.{tree_eq, tree_eq_partial, tree_eq_equiv};
 
 use crate::geometry::{Geometry, Members, Shape};
 use crate::lists::{Element, Elements, Ids};

@@ -10,7 +10,7 @@ use twkb_points::{Bounds, merged};
 impl Members {
     // The smallest box that holds the points of all members; `None` if they have no points.
     #[cycle(bounds)]
-    #[tactic(auto, using(twkb_points::proofs::ExtentLemmas::extents))]
+    #[tactic(auto, using(twkb_points::proofs::PointLemmas::extents))]
     fn bounds(&self) -> Option<Bounds>
         ensures { result ≡ extent (flat_all (trees self.now)) }
     {

@@ -1,7 +1,7 @@
 //! Geometries, their shapes and their members.
 ghost use Rattle.std.specs.Prelude.{◌≡◌, ◌↔◌, IsTrue, IsOk, IfOk};
 ghost use Rattle.twkb_tree.specs.Tree.{HasIds, AreTrees, trees};
-ghost use Rattle.twkb_tree.specs.InRange.{AreTreesInRange};
+ghost use Rattle.twkb_tree.specs.Limits.{AreTreesInRange};
 
 use crate::fault::GeomFault;
 use crate::lists::{Areas, Ids, Lines, Pts};
@@ -61,7 +61,7 @@ impl Model for Members {
     ghost coded = { coded_list coded_tree };
 
     ghost use Rattle.twkb_tree.specs.Tree.{AreTrees, trees};
-    ghost use Rattle.twkb_tree.specs.InRange.{AreTreesInRange};
+    ghost use Rattle.twkb_tree.specs.Limits.{AreTreesInRange};
 
     ghost view = { λ a. a.items.items };
 
@@ -77,7 +77,7 @@ impl Model for Members {
 
 impl Model for Geometry {
     ghost use Rattle.twkb_tree.specs.Tree.{Tree, IsTree};
-    ghost use Rattle.twkb_tree.specs.InRange.{IsTreeInRange};
+    ghost use Rattle.twkb_tree.specs.Limits.{IsTreeInRange};
     ghost use Rattle.twkb_tree.specs.TreeCode.{coded_tree};
 
     ghost Value = { Tree };
@@ -181,7 +181,7 @@ impl Shape {
 impl Geometry {
     ghost use Rattle.twkb_tree.specs.Shape.{tree_of, HasFitIds};
     ghost use Rattle.twkb_tree.specs.Tree.{precision_of, IsTree, IsPrecision};
-    ghost use Rattle.twkb_tree.specs.InRange.{IsTreeInRange};
+    ghost use Rattle.twkb_tree.specs.Limits.{IsTreeInRange};
 
     /// Makes a geometry of a shape with a precision. Refuses a precision outside -8 to 7, and then
     /// ids that are not one for each of at least one member; an `Err` gives the shape back, with

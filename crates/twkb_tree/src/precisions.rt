@@ -1,7 +1,7 @@
 //! The test that a geometry's members have its precision.
 ghost use Rattle.std.specs.Prelude.{◌≡◌};
 ghost use Rattle.twkb_tree.specs.Tree.{trees};
-ghost use Rattle.twkb_tree.specs.Uniform.{has_precision, have_precision, uniform};
+ghost use Rattle.twkb_tree.specs.Limits.{has_precision, have_precision, uniform};
 
 use crate::geometry::{Geometry, Members, Shape};
 

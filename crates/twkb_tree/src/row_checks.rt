@@ -2,10 +2,9 @@
 ghost use Rattle.std.specs.Prelude.{◌≡◌, ◌+◌, List, true, is_some, length, nat_le};
 ghost use Rattle.twkb_points.specs.Point.{Point};
 ghost use Rattle.twkb_tree.specs.Admits.{id_in_range, precision_in_range};
-ghost use Rattle.twkb_tree.specs.Open.{row_of, child_of};
+ghost use Rattle.twkb_tree.specs.Open.{row_of, child_of, field_checks, points_checks, row_checks, row_there};
 ghost use Rattle.twkb_tree.specs.Refusal.{first_failed, place_checks, id_checks, precision_checks};
 ghost use Rattle.twkb_tree.specs.Refusal.{count_checks};
-ghost use Rattle.twkb_tree.specs.RowPlace.{field_checks, points_checks, row_checks, row_there};
 ghost use Rattle.twkb_tree.specs.Rows.{Row};
 
 use crate::geometry::{GREATEST_PRECISION, LEAST_PRECISION};

@@ -17,7 +17,7 @@ pub struct RowPlace {
 
 impl RowPlace {
     ghost use Rattle.std.specs.Prelude.{◌≡◌, ◌<◌, ◌≤◌, length, MatchOption};
-    ghost use Rattle.twkb_tree.specs.RowPlace.{row_place_at};
+    ghost use Rattle.twkb_tree.specs.Open.{row_place_at};
 
     /// The place of a row at `depth`, by the open rows, the root first, and the numbers of rows and
     /// points since the last root; a root has no parent, and both numbers are 0. `None` if `depth`

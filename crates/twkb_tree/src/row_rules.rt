@@ -2,8 +2,7 @@
 ghost use Rattle.std.specs.Prelude.{◌≡◌, ℤ, List, length, Option, is_some};
 ghost use Rattle.twkb_points.specs.Point.{Point};
 ghost use Rattle.twkb_tree.specs.Admits.{may_have, has_place, is_geometry, id_allowed, has_same_ids};
-ghost use Rattle.twkb_tree.specs.Admits.{has_needed_precision, precision_allowed, points_fit, has_points};
-ghost use Rattle.twkb_tree.specs.Accepted.{nest_kept};
+ghost use Rattle.twkb_tree.specs.Admits.{has_needed_precision, precision_allowed, points_fit, has_points, nest_kept};
 ghost use Rattle.twkb_tree.specs.Open.{row_of, child_of};
 
 use crate::kind::Kind;

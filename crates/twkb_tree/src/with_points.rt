@@ -69,7 +69,7 @@ fn total_points<T: WithPoints>(items: &[T]) -> u64
 }
 
 // The smallest box that holds the points of all items; `None` if they have no points.
-#[tactic(auto, using(twkb_points::proofs::ExtentLemmas::extents))]
+#[tactic(auto, using(twkb_points::proofs::PointLemmas::extents))]
 fn joined_bounds<T: WithPoints>(items: &[T]) -> Option<Bounds>
     ensures { result ≡ extent (flat_map T.points_of items.now) }
 {

@@ -14,10 +14,8 @@ use Rattle.twkb_tree.specs.Tree.{Simple, polygon, multi_point, multi_line, multi
 use Rattle.twkb_tree.specs.Tree.{Trees, end, ◌▷◌, Ids, members}
 use Rattle.twkb_tree.specs.declared.kind.Kind.{Kind}
 use Rattle.twkb_tree.specs.Rows.{Row, plain_row, polygon_rows, rows_with, rows_below, member_rows, ring_rows}
-use Rattle.twkb_tree.specs.Rows.{rows_of_each, first_id, other_ids, rows_under, row_points}
-use Rattle.twkb_tree.specs.RowLists.{IsAbove}
-use Rattle.twkb_tree.proofs.AllJoined.{all_join}
-use Rattle.twkb_tree.proofs.RowLaws.{AreDeep, IsDeeper, row_points-append}
+use Rattle.twkb_tree.specs.Rows.{rows_of_each, first_id, other_ids, rows_under, row_points, IsAbove}
+use Rattle.twkb_tree.proofs.RowLaws.{all_join, AreDeep, IsDeeper, row_points-append}
 use Rattle.twkb_grammar.specs.Roles.{Field}
 use Rattle.twkb_grammar.specs.Items.{Slot, OfId, OfPoint, filled}
 use Rattle.twkb_grammar.specs.Written.{varints}

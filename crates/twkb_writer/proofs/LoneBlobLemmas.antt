@@ -5,28 +5,25 @@ use Rattle.std.specs.Prelude.{None, ◌-ℤ◌}
 use Rattle.std.proofs.lemmas.List.{take_all}
 use Rattle.twkb_num.specs.Alphabet.{leb_unit}
 use Rattle.twkb_num.specs.Varint.{varint_of}
-use Rattle.twkb_num.specs.Zigzag.{zigzag_of}
+use Rattle.twkb_num.specs.Spelling.{zigzag_of}
 use Rattle.twkb_num.proofs.SpellingLemmas.{shortest_one}
 use Rattle.twkb_points.specs.Point.{Point, origin}
 use Rattle.twkb_tree.specs.Tree.{point, IsPrecision, line, saturated}
 use Rattle.twkb_tree.specs.declared.kind.Kind.TheVariants as kind
 use Rattle.twkb_flat.specs.declared.work.Work.{Work}
 use Rattle.twkb_grammar.specs.Items.{fields, header_byte}
-use Rattle.twkb_grammar.specs.TypeByte.{type_byte}
+use Rattle.twkb_grammar.specs.Roles.{type_byte}
 use Rattle.twkb_grammar.specs.Written.{canonical_blob, varints, framed, metadata_byte}
 use Rattle.twkb_grammar.specs.declared.style.Style.{Style}
 use Rattle.twkb_grammar.specs.declared.style.Style.TheVariants.{Full, Plain}
-use Rattle.twkb_writer.specs.PointBlob.{one_point, point_frame}
-use Rattle.twkb_writer.specs.Tails.{number_len, tail_of}
+use Rattle.twkb_writer.specs.Bytes.{one_point, point_frame, geometry_lead, way_bytes, one_line, MeasuresLine}
+use Rattle.twkb_writer.specs.Totals.{number_len, tail_of, blank, entry_for}
 use Rattle.twkb_writer.specs.declared.totals.RowTotals.{RowTotals}
 use Rattle.twkb_writer.specs.declared.sizes.Entry.{Entry}
 use Rattle.twkb_writer.specs.declared.tails.TailTotals.{TailTotals}
-use Rattle.twkb_writer.specs.Bytes.{geometry_lead, way_bytes}
-use Rattle.twkb_writer.specs.LineBlob.{one_line, MeasuresLine}
 use Rattle.twkb_writer.specs.MeasuredRows.{Measures}
-use Rattle.twkb_writer.specs.Reads.{ReadsExactly}
+use Rattle.twkb_writer.specs.Nodes.{ReadsExactly}
 use Rattle.twkb_writer.specs.Sizes.{entry_of}
-use Rattle.twkb_writer.specs.Totals.{blank, entry_for}
 use Rattle.twkb_writer.proofs.TreeBytes.{type_is, rows_spell}
 use Rattle.twkb_writer.proofs.MeasuringParts.{length-number}
 use Rattle.twkb_writer.proofs.MeasuringTrees.{entry_is, simple_measured}

@@ -6,10 +6,9 @@ use Rattle.std.proofs.lemmas.List.{drop_all, reverse-append, reverse-reverse}
 use Rattle.twkb_points.specs.Point.{Point}
 use Rattle.twkb_tree.specs.Limits.{largest_limits, IsValid}
 use Rattle.twkb_tree.specs.Rows.{Row, rows, row_points, own_row, rows_of_each, first_id, other_ids, ids_from}
-use Rattle.twkb_tree.specs.Rows.{ring_rows, rows_with, rows_under, member_rows}
-use Rattle.twkb_tree.specs.RowLists.{AreValidRowsOfOne}
+use Rattle.twkb_tree.specs.Rows.{ring_rows, rows_with, rows_under, member_rows, AreValidRowsOfOne}
 use Rattle.twkb_tree.specs.Tree.{Tree, simple, collection, saturated, Ids, trees}
-use Rattle.twkb_tree.proofs.MemberLemmas.{each_next, ids_from_start, member_rows_each, own_row_first}
+use Rattle.twkb_tree.proofs.TreeLemmas.{each_next, ids_from_start, member_rows_each, own_row_first}
 use Rattle.twkb_tree.proofs.RowSteps.{own_row-depth}
 use Rattle.twkb_flat.specs.declared.node.Node.{Node}
 use Rattle.twkb_flat.specs.Rows.{IsNode, row_with, row_depth_cap}
@@ -21,20 +20,17 @@ use Rattle.twkb_writer.specs.declared.totals.RowTotals.{RowTotals}
 use Rattle.twkb_writer.specs.declared.sizes.Entry.{Entry}
 use Rattle.twkb_writer.specs.declared.tails.TailTotals.{TailTotals}
 use Rattle.twkb_writer.specs.Depths.{IsBlankFrom}
-use Rattle.twkb_writer.specs.Totals.{blank, entry_for}
+use Rattle.twkb_writer.specs.Totals.{blank, entry_for, tail_of}
 use Rattle.twkb_writer.specs.MeasuredRows.{measured, points_ahead, option_list, tail_after, TakenRow, row_entry}
-use Rattle.twkb_writer.specs.MeasuredRows.{Stands, AreMeasurable}
-use Rattle.twkb_writer.specs.Nodes.{own_points_in}
+use Rattle.twkb_writer.specs.MeasuredRows.{Stands, AreMeasurable, Awaits, Adds}
+use Rattle.twkb_writer.specs.Nodes.{own_points_in, ReadsExactly}
 use Rattle.twkb_writer.specs.Sizes.{AreSizes}
-use Rattle.twkb_writer.specs.Tails.{tail_of}
-use Rattle.twkb_writer.specs.Reads.{ReadsExactly}
 use Rattle.twkb_writer.specs.declared.measured_tree.RowPass.{RowPass}
-use Rattle.twkb_writer.specs.MeasuredTree.{Awaits, Adds}
-use Rattle.twkb_writer.proofs.MeasuringSteps.{stands_none, stands_more, measurable_from, measurable, measurable_after}
+use Rattle.twkb_writer.proofs.MeasuringParts.{stands_none, stands_more, measurable_from, measurable, measurable_after}
 use Rattle.twkb_writer.proofs.MeasuringTrees.{measured_rows, totals_blob}
 use Rattle.twkb_writer.proofs.BelowLemmas.{rest_is, own_points, points_step}
-use Rattle.twkb_writer.proofs.PutLemmas.{part_more, nothing_left, whole_part}
-use Rattle.twkb_writer.proofs.ReadLemmas.{exactly_none, exactly_node, exactly_point}
+use Rattle.twkb_writer.proofs.PutLemmas.{part_more, nothing_left, whole_part, exactly_none, exactly_node}
+use Rattle.twkb_writer.proofs.PutLemmas.{exactly_point}
 use Rattle.twkb_writer.proofs.LoneBlobLemmas.{all_own}
 use Rattle.twkb_tree.specs.declared.kind.Kind.TheVariants as kind
 

@@ -4,17 +4,16 @@ use Rattle.std.proofs.Common.{[], ◌∷◌, ◌++◌, length, Option, None, Som
 use Rattle.std.specs.Prelude.{◌&&◌, if◌then◌else◌, is_some, ◌||◌, nat_eq, map, ◌-ℤ◌, not}
 use Rattle.std.proofs.lemmas.Bool.{eq-eqb}
 use Rattle.std.proofs.lemmas.Bool.Decides.{nat_tests}
-use Rattle.twkb_num.specs.Zigzag.{zigzag_of}
+use Rattle.twkb_num.specs.Spelling.{zigzag_of}
 use Rattle.twkb_num.specs.Varint.{varint_of}
 use Rattle.twkb_points.specs.Point.{Point}
 use Rattle.twkb_points.specs.Extent.{joined_options, extent, Extent}
-use Rattle.twkb_points.proofs.ExtentLemmas.{joined_options-none, extent-append}
+use Rattle.twkb_points.proofs.PointLemmas.{joined_options-none, extent-append}
 use Rattle.twkb_tree.specs.Tree.{Tree, simple, collection, Trees, end, ◌▷◌, precision_of, Ids, HasIds, IdsFit, Simple}
 use Rattle.twkb_tree.specs.Tree.{point, count, members, flat, flat_all, points_in, IsTree, AreTrees}
-use Rattle.twkb_tree.specs.Uniform.{int_eq, has_precision, have_precision, uniform}
+use Rattle.twkb_tree.specs.Limits.{int_eq, has_precision, have_precision, uniform}
 use Rattle.twkb_tree.specs.Rows.{Row, kind_in, own_points, rows, rows_with, member_rows, first_id, other_ids}
-use Rattle.twkb_tree.specs.Rows.{whole_row}
-use Rattle.twkb_tree.specs.RowLists.{IsAbove}
+use Rattle.twkb_tree.specs.Rows.{whole_row, IsAbove}
 use Rattle.twkb_tree.specs.declared.kind.Kind.{Kind}
 use Rattle.twkb_tree.proofs.RowLaws.{AreDeep}
 use Rattle.twkb_tree.proofs.RowSteps.{above_less}
@@ -26,23 +25,21 @@ use Rattle.twkb_grammar.specs.declared.style.Style.{Style}
 use Rattle.twkb_grammar.specs.declared.style.Style.TheVariants.{Full, Plain}
 use Rattle.twkb_writer.specs.declared.precisions.Precisions.{Precisions}
 use Rattle.twkb_writer.specs.declared.precisions.Precisions.TheVariants.{Absent, One, Several}
-use Rattle.twkb_writer.specs.Precisions.{all_are, agreed}
+use Rattle.twkb_writer.specs.Sizes.{all_are, agreed, AreSizes, entry_of, sizes_of, sizes_of_all, body_of, own_body}
+use Rattle.twkb_writer.specs.Sizes.{bounds_of, content_of, part_count, ids_of}
 use Rattle.twkb_writer.specs.declared.totals.RowTotals.{RowTotals}
 use Rattle.twkb_writer.specs.declared.sizes.Entry.{Entry}
 use Rattle.twkb_writer.specs.Totals.{blank, id_len, is_bare, entry_for, blob_len, is_point as is_point_kind, lead_len}
-use Rattle.twkb_writer.specs.Totals.{body_len, all_bounds, box_for, box_len}
+use Rattle.twkb_writer.specs.Totals.{body_len, all_bounds, box_for, box_len, number_len, tail_of, from_origin}
 use Rattle.twkb_writer.specs.Bytes.{entry_count, entries_in, signed, box_bytes}
 use Rattle.twkb_writer.specs.declared.tails.TailTotals.{TailTotals}
 use Rattle.twkb_writer.specs.MeasuredRows.{row_entry, option_list, totals, measured, points_ahead, row_totals}
-use Rattle.twkb_writer.specs.Sizes.{AreSizes, entry_of, sizes_of, sizes_of_all, body_of, own_body, bounds_of}
-use Rattle.twkb_writer.specs.Sizes.{content_of, part_count, ids_of}
-use Rattle.twkb_writer.specs.Tails.{number_len, tail_of, from_origin}
-use Rattle.twkb_writer.proofs.MeasuringSteps.{totals_at, totals_none, totals_past}
+use Rattle.twkb_writer.proofs.MeasuringParts.{totals_at, totals_none, totals_past, with_each, components_totals}
+use Rattle.twkb_writer.proofs.MeasuringParts.{AreCounted, counted_none, counted_join, parts_counted, all_points}
+use Rattle.twkb_writer.proofs.MeasuringParts.{IsCounted, members_listed, ids_sum, ids_len, length-number}
+use Rattle.twkb_writer.proofs.MeasuringParts.{length-fields, from_origin-tail_of, total_parts, and_true, lead_parts}
+use Rattle.twkb_writer.proofs.MeasuringParts.{bare_shape}
 use Rattle.twkb_writer.proofs.BelowLemmas.{deep-below}
-use Rattle.twkb_writer.proofs.MeasuringParts.{with_each, components_totals, AreCounted, counted_none, counted_join}
-use Rattle.twkb_writer.proofs.MeasuringParts.{parts_counted, all_points, IsCounted, members_listed, ids_sum, ids_len}
-use Rattle.twkb_writer.proofs.MeasuringParts.{length-number, length-fields, from_origin-tail_of, total_parts}
-use Rattle.twkb_writer.proofs.MeasuringParts.{and_true, lead_parts, bare_shape}
 use Rattle.twkb_writer.proofs.TreeBytes.{length-members, has_members, box_is as box_is_written, blob_is}
 use Rattle.twkb_tree.specs.declared.kind.Kind.TheVariants as kinds
 

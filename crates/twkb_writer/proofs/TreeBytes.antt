@@ -4,7 +4,7 @@ use Rattle.std.proofs.Common.{Some, None, refl, ap, sym, ◌∙◌, append_assoc
 use Rattle.std.proofs.Common.{length-append}
 use Rattle.std.specs.Prelude.{ℤ, pos, negsuc, flat_map, not, ◌&&◌, if◌then◌else◌, is_some}
 use Rattle.std.proofs.lemmas.Int.{ints}
-use Rattle.twkb_num.specs.Zigzag.{zigzag_of}
+use Rattle.twkb_num.specs.Spelling.{zigzag_of}
 use Rattle.twkb_num.specs.Varint.{varint_of}
 use Rattle.twkb_points.specs.Point.{Point, origin}
 use Rattle.twkb_points.specs.Extent.{Extent, extent, extent_of, joined_options, box_numbers, tight}
@@ -13,11 +13,11 @@ use Rattle.twkb_tree.specs.Tree.{collection, end, ◌▷◌, IsTree, IsPrecision
 use Rattle.twkb_tree.specs.Tree.{IdsFit, AreTrees, members, count}
 use Rattle.twkb_tree.specs.Rows.{own_row, own_points, kind_in, Row, plain_row, polygon_rows, ring_rows, rows_of_each}
 use Rattle.twkb_tree.specs.Rows.{whole_row, other_ids, rows, rows_with, rows_below, member_rows, first_id, rows_under}
-use Rattle.twkb_tree.specs.RowLists.{IsAbove}
-use Rattle.twkb_tree.specs.Uniform.{uniform}
+use Rattle.twkb_tree.specs.Rows.{IsAbove}
+use Rattle.twkb_tree.specs.Limits.{uniform}
 use Rattle.twkb_tree.specs.declared.kind.Kind.{Kind}
 use Rattle.twkb_tree.specs.declared.kind.Kind.TheVariants as kind
-use Rattle.twkb_tree.proofs.MemberLemmas.{own_row_first}
+use Rattle.twkb_tree.proofs.TreeLemmas.{own_row_first}
 use Rattle.twkb_tree.proofs.RowForest.{both_true}
 use Rattle.twkb_tree.proofs.RowSteps.{own_row-depth, own_row-id, above_less}
 use Rattle.twkb_tree.proofs.RowLaws.{one_geometry}
@@ -28,10 +28,9 @@ use Rattle.twkb_grammar.specs.Written.{metadata_byte, framed, written, canonical
 use Rattle.twkb_grammar.specs.Written.{canonical_members}
 use Rattle.twkb_grammar.specs.declared.style.Style.{Style}
 use Rattle.twkb_grammar.specs.declared.style.Style.TheVariants.{Full, Plain}
-use Rattle.twkb_grammar.specs.TypeByte.{type_of, type_byte}
-use Rattle.twkb_grammar.specs.Metadata.{bit_value}
-use Rattle.twkb_grammar.specs.Roles.{Counted, Points, Components, Count, Geometries, Rings}
-use Rattle.twkb_grammar.specs.Spans.{geometries, geometries_of_all}
+use Rattle.twkb_grammar.specs.Roles.{type_of, type_byte, bit_value, Counted, Points, Components, Count, Geometries}
+use Rattle.twkb_grammar.specs.Roles.{Rings}
+use Rattle.twkb_grammar.specs.Noting.{geometries, geometries_of_all}
 use Rattle.twkb_grammar.proofs.Bodies.{reached, reached-append, fields_are}
 use Rattle.twkb_writer.specs.Bytes.{is_bare, metadata_of, size_bytes, box_bytes, header, signed, rows_bytes}
 use Rattle.twkb_writer.specs.Bytes.{counts_bytes, members_below, way_bytes, way_end, ids_bytes}

@@ -1,21 +1,27 @@
--- The bytes of rows in preorder, given the measured sizes of their geometries.
-use Rattle.std.specs.Prelude.{ℕ, zero, suc, ◌+◌, Bool, true, false, if◌then◌else◌, nat_le, nat_eq}
-use Rattle.std.specs.Prelude.{not, ◌&&◌, is_some, List, [], ◌∷◌, ◌++◌, length, drop, flat_map, ℤ}
-use Rattle.std.specs.Prelude.{Option, None, Some}
-use Rattle.twkb_num.specs.Zigzag.{zigzag_of}
+-- The bytes of rows in preorder, given the measured sizes of their geometries, and how a gatherer puts them.
+use Rattle.std.specs.Prelude.{ℕ, zero, suc, ◌+◌, Bool, true, false, if◌then◌else◌, nat_le, nat_eq, not, ◌&&◌, is_some}
+use Rattle.std.specs.Prelude.{List, [], ◌∷◌, ◌++◌, length, drop, flat_map, ℤ, Option, None, Some, ◌≡◌, ◌*◌}
+use Rattle.twkb_num.specs.Spelling.{zigzag_of}
 use Rattle.twkb_num.specs.Varint.{varint_of}
 use Rattle.twkb_points.specs.Point.{Point, origin}
-use Rattle.twkb_points.specs.Differences.{differences_from}
+use Rattle.twkb_points.specs.Steps.{differences_from}
 use Rattle.twkb_points.specs.Extent.{Extent, box_numbers}
 use Rattle.twkb_tree.specs.declared.kind.Kind.{Kind}
 use Rattle.twkb_tree.specs.declared.kind.Kind.TheVariants as kind
 use Rattle.twkb_tree.specs.Rows.{Row}
 use Rattle.twkb_grammar.specs.declared.style.Style.{Style}
 use Rattle.twkb_grammar.specs.declared.style.Style.TheVariants.{Full, Plain}
-use Rattle.twkb_grammar.specs.TypeByte.{type_byte}
-use Rattle.twkb_grammar.specs.Metadata.{metadata_number}
+use Rattle.twkb_grammar.specs.Roles.{type_byte, metadata_number}
 use Rattle.twkb_grammar.specs.declared.metadata.MetadataFlags.{MetadataFlags}
 use Rattle.twkb_writer.specs.declared.sizes.Entry.{Entry}
+use Rattle.twkb_tree.specs.Tree.{Tree, simple, point, line, saturated}
+use Rattle.twkb_flat.specs.declared.work.Work.{Work}
+use Rattle.twkb_io.specs.Sinks.{TookFront}
+use Rattle.twkb_writer.specs.declared.gatherer.Gatherer.{Gatherer}
+use Rattle.twkb_writer.specs.declared.encoded_geometry.EncodeFault.{EncodeFault}
+use Rattle.twkb_writer.specs.declared.encoded_geometry.EncodeFault.TheVariants.{Memory, Sink}
+
+-- ==== The bytes of rows in preorder, given the measured sizes of their geometries.
 
 -- ---- numbers
 
@@ -147,3 +153,61 @@ rows_bytes style at es (r ∷ rs) =
 abbrev pub entries_in : List Row → ℕ
 entries_in [] = 0
 entries_in (r ∷ rs) = entry_count r.precision + entries_in rs
+
+-- ==== The blob of a point that is not empty.
+
+-- the geometry that is this point, with this precision
+abbrev pub one_point : ℤ → Point → Tree
+one_point p q = simple p (point (Some q))
+
+-- the bytes between a point's type byte and its body of this size: the metadata byte and, in a full
+-- blob, the size (TWKB, metadata header and size)
+abbrev pub point_frame : Style → ℕ → List ℕ
+point_frame Full size = 2 ∷ varint_of size
+point_frame Plain size = 0 ∷ []
+
+-- ==== The blob of a line.
+
+-- the geometry that is the line through these points, with this precision
+abbrev pub one_line : ℤ → List Point → Tree
+one_line p ps = simple p (line ps)
+
+-- a line of this many points was measured, each of its points was read twice, and no node was read
+pub record MeasuresLine (old : Work) (points : ℕ) (new : Work) : Type 0 where
+  pub more_points : new.points ≡ saturated (old.points + points)
+  pub more_nodes : new.nodes ≡ saturated (old.nodes + 1)
+  pub more_entries : new.entries ≡ saturated (old.entries + 1)
+  pub point_reads : new.point_reads ≡ saturated (old.point_reads + 2 * points)
+  pub same_node_reads : new.node_reads ≡ old.node_reads
+
+-- ==== The bytes put through a gatherer, which collects them in a piece on their way to a sink.
+
+-- since a first state, the sink took all of these bytes but the held ones, or took a prefix of them
+-- and refused a put
+abbrev pub Stands : {S F : Type 0} → (S → List ℕ → S → Type 0) → (S → List ℕ → F → S → Type 0) → S
+    → List ℕ → Option F → S → List ℕ → Type 0
+Stands took refused from bytes None sink held = (front : List ℕ) × took from front sink × (bytes ≡ front ++ held)
+Stands took refused from bytes (Some fault) sink held = TookFront refused from bytes fault sink
+
+-- these bytes were put after all earlier bytes
+pub record Put {S F : Type 0} (took : S → List ℕ → S → Type 0) (refused : S → List ℕ → F → S
+    → Type 0) (old : Gatherer S F) (bytes : List ℕ) (new : Gatherer S F) : Type 0 where
+  pub same_sink : new.sink.ghost_name ≡ old.sink.ghost_name
+  pub same_fault : new.fault.ghost_name ≡ old.fault.ghost_name
+  pub puts : (from : S) (before : List ℕ) → Stands took refused from before old.fault.now old.sink.now old.piece.now
+      → Stands took refused from (before ++ bytes) new.fault.now new.sink.now new.piece.now
+
+-- of all the bytes, these are still to be put
+pub record Progress {S F : Type 0} (took : S → List ℕ → S → Type 0) (refused : S → List ℕ → F → S
+    → Type 0) (old : Gatherer S F) (all : List ℕ) (new : Gatherer S F)
+    (rest : List ℕ) : Type 0 where
+  pub written : List ℕ
+  pub put : Put took refused old written new
+  pub total : written ++ rest ≡ all
+
+-- ==== The bytes that a sink took of a geometry that was not written to its end.
+
+-- no bytes if memory was refused, otherwise a prefix of them
+abbrev pub Stopped : {T F : Type 0} → (T → List ℕ → F → T → Type 0) → T → List ℕ → EncodeFault F → T → Type 0
+Stopped refused old bytes Memory new = new ≡ old
+Stopped refused old bytes (Sink fault) new = TookFront refused old bytes fault new

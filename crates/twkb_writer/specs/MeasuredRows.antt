@@ -1,11 +1,10 @@
 -- The totals of rows, found in one pass from the last row to the first.
-use Rattle.std.specs.Prelude.{◌≡◌, ℕ, suc, ◌+◌, ◌*◌, ◌<◌, ◌≤◌, ℤ, nat_lt, nat_eq, if◌then◌else◌, List, [], ⊤}
-use Rattle.std.specs.Prelude.{◌∷◌, ◌++◌, length, slice_index_or, slice_set, Option, None, Some}
+use Rattle.std.specs.Prelude.{◌≡◌, ℕ, suc, ◌+◌, ◌*◌, ◌<◌, ◌≤◌, ℤ, nat_lt, nat_eq, if◌then◌else◌, List, [], ⊤, ◌∷◌}
+use Rattle.std.specs.Prelude.{◌++◌, length, slice_index_or, slice_set, Option, None, Some}
 use Rattle.twkb_points.specs.Point.{Point}
 use Rattle.twkb_tree.specs.declared.kind.Kind.{Kind}
 use Rattle.twkb_tree.specs.declared.limits.TheConstants.{NODES_CAP, POINTS_CAP}
-use Rattle.twkb_tree.specs.Rows.{Row, row_points}
-use Rattle.twkb_tree.specs.RowLists.{IsAbove}
+use Rattle.twkb_tree.specs.Rows.{Row, row_points, IsAbove}
 use Rattle.twkb_tree.specs.Tree.{saturated}
 use Rattle.twkb_flat.specs.Rows.{row_depth_cap}
 use Rattle.twkb_flat.specs.declared.node.Node.{Node}
@@ -15,8 +14,12 @@ use Rattle.twkb_writer.specs.declared.depths.TheConstants.{DEPTHS}
 use Rattle.twkb_writer.specs.declared.totals.RowTotals.{RowTotals}
 use Rattle.twkb_writer.specs.declared.sizes.Entry.{Entry}
 use Rattle.twkb_writer.specs.declared.tails.TailTotals.{TailTotals}
-use Rattle.twkb_writer.specs.Totals.{blank, entry_for, with_component, with_geometry}
-use Rattle.twkb_writer.specs.Tails.{tail_of}
+use Rattle.twkb_writer.specs.Totals.{blank, entry_for, with_component, with_geometry, tail_of}
+use Rattle.twkb_flat.specs.declared.node.Row.{Row as FlatRow}
+use Rattle.twkb_grammar.specs.declared.style.Style.TheVariants.{Full}
+use Rattle.twkb_writer.specs.declared.measured_tree.RowPass.{RowPass}
+
+-- ==== The totals of rows, found in one pass from the last row to the first.
 
 -- the points up to the next geometry, if the row is a component; none if it is a geometry itself
 abbrev pub ahead_of : Option ℤ → List Point → List Point
@@ -128,3 +131,20 @@ pub record Counted (old : Work) (points nodes entries : ℕ) (new : Work) : Type
   pub more_entries : new.entries ≡ saturated (old.entries + entries)
   pub point_reads : new.point_reads ≡ saturated (old.point_reads + points)
   pub node_reads : new.node_reads ≡ saturated (old.node_reads + nodes)
+
+-- ==== The rows of a geometry, added to a pass from the last to the first.
+
+-- these rows may be added before those that the pass has measured
+pub record Awaits (pass : RowPass) (rs : List Row) : Type 0 where
+  pub rest : List Row
+  pub stands : Stands Full rest pass.depths pass.tail
+  pub fit : AreMeasurable (rs ++ rest)
+
+-- these rows were added before whichever rows the pass had measured
+pub record Adds (old : RowPass) (rs : List Row) (new : RowPass) : Type 0 where
+  pub stands : (rest : List Row) → Stands Full rest old.depths old.tail → AreMeasurable (rs ++ rest)
+      → Stands Full (rs ++ rest) new.depths new.tail
+
+-- the row of a component, without its points
+abbrev pub part_row : Kind → ℕ → Option ℤ → FlatRow
+part_row kind depth id = record { depth = depth; kind = kind; id = id; precision = None }

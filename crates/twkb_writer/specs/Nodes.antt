@@ -1,5 +1,5 @@
--- The bytes before the points of a node of a flat form.
-use Rattle.std.specs.Prelude.{ℕ, ◌+◌, Bool, if◌then◌else◌, List, [], ◌++◌, take, drop, ℤ}
+-- The bytes before the points of a node of a flat form, and the work that reading the form counts.
+use Rattle.std.specs.Prelude.{ℕ, ◌+◌, Bool, if◌then◌else◌, List, [], ◌++◌, take, drop, ℤ, ◌≡◌, ◌≤◌}
 use Rattle.twkb_num.specs.Varint.{varint_of}
 use Rattle.twkb_points.specs.Point.{Point, origin}
 use Rattle.twkb_tree.specs.Rows.{Row}
@@ -9,8 +9,12 @@ use Rattle.twkb_writer.specs.declared.job.Job.{Job}
 use Rattle.twkb_writer.specs.declared.job.PlacedNode.{PlacedNode}
 use Rattle.twkb_writer.specs.declared.members.MemberList.{MemberList}
 use Rattle.twkb_writer.specs.declared.sizes.Entry.{Entry}
-use Rattle.twkb_writer.specs.Bytes.{members_below, ids_bytes, counts_bytes, is_bare, header}
-use Rattle.twkb_writer.specs.Bytes.{component_lead, lead, rows_bytes}
+use Rattle.twkb_writer.specs.Bytes.{members_below, ids_bytes, counts_bytes, is_bare, header, component_lead, lead}
+use Rattle.twkb_writer.specs.Bytes.{rows_bytes}
+use Rattle.twkb_tree.specs.Tree.{saturated}
+use Rattle.twkb_flat.specs.declared.work.Work.{Work}
+
+-- ==== The bytes before the points of a node of a flat form.
 
 -- the rows after the node
 abbrev pub rows_after : List Row → PlacedNode → List Row
@@ -59,3 +63,23 @@ bytes_of job = rows_bytes job.style origin job.sizes.now job.flat.now
 -- the node's own points among all points
 abbrev pub own_points_in : Node → List Point → List Point
 own_points_in node ps = take node.points (drop node.first.0 ps)
+
+-- ==== The work that reading a flat form adds to the counts.
+
+-- at most this many nodes and points were read, no count was lowered, and nothing else was counted
+pub record Reads (old : Work) (nodes points : ℕ) (new : Work) : Type 0 where
+  pub node_reads : new.node_reads ≤ old.node_reads + nodes
+  pub point_reads : new.point_reads ≤ old.point_reads + points
+  pub no_fewer_nodes : old.node_reads ≤ new.node_reads
+  pub no_fewer_points : old.point_reads ≤ new.point_reads
+  pub same_points : new.points ≡ old.points
+  pub same_nodes : new.nodes ≡ old.nodes
+  pub same_entries : new.entries ≡ old.entries
+
+-- exactly this many nodes and points were read, and nothing else was counted
+pub record ReadsExactly (old : Work) (nodes points : ℕ) (new : Work) : Type 0 where
+  pub node_reads : new.node_reads ≡ saturated (old.node_reads + nodes)
+  pub point_reads : new.point_reads ≡ saturated (old.point_reads + points)
+  pub same_points : new.points ≡ old.points
+  pub same_nodes : new.nodes ≡ old.nodes
+  pub same_entries : new.entries ≡ old.entries

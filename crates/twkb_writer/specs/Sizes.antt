@@ -1,5 +1,6 @@
--- The numbers of a geometry that its canonical blob needs before its body.
-use Rattle.std.specs.Prelude.{◌≡◌, ℕ, if◌then◌else◌, is_some, List, [], ◌∷◌, ◌++◌, length, Option, None}
+-- The numbers of a geometry that its canonical blob needs before its body, and their bounds.
+use Rattle.std.specs.Prelude.{◌≡◌, ℕ, if◌then◌else◌, is_some, List, [], ◌∷◌, ◌++◌, length, Option, None, ◌^◌, ℤ, Bool}
+use Rattle.std.specs.Prelude.{true, false}
 use Rattle.twkb_points.specs.Extent.{Extent, extent}
 use Rattle.twkb_tree.specs.Tree.{Simple, polygon, multi_point, multi_line, multi_polygon, Tree, simple, collection}
 use Rattle.twkb_tree.specs.Tree.{Trees, end, ◌▷◌, Ids, IsTree, count, flat}
@@ -11,6 +12,11 @@ use Rattle.twkb_grammar.specs.declared.style.Style.{Style}
 use Rattle.twkb_grammar.specs.declared.style.Style.TheVariants.{Full, Plain}
 use Rattle.twkb_writer.specs.declared.sizes.Entry.{Entry}
 use Rattle.twkb_writer.specs.Bytes.{box_bytes}
+use Rattle.twkb_tree.specs.Limits.{int_eq}
+use Rattle.twkb_writer.specs.declared.precisions.Precisions.{Precisions}
+use Rattle.twkb_writer.specs.declared.precisions.Precisions.TheVariants.{Absent, One, Several}
+
+-- ==== The numbers of a geometry that its canonical blob needs before its body.
 
 -- the body of a geometry's canonical blob, if it has one (TWKB, description of types)
 abbrev pub body_of : Style → Tree → List ℕ
@@ -81,3 +87,30 @@ abbrev mutual
 abbrev pub AreSizes : Style → List Row → List Entry → Type 0
 AreSizes style [] es = es ≡ []
 AreSizes style (r ∷ rs) es = (g : Tree) × IsTree g × (rows 0 g ≡ r ∷ rs) × (es ≡ sizes_of style g)
+
+-- ==== Bounds on the numbers that a pass over rows adds up, by the limits on rows and points.
+
+-- the weights of the rows at all depths, with the bytes of the points up to the next geometry, are
+-- at most this
+abbrev pub weights_cap : ℕ
+weights_cap = 2 ^ 30
+
+-- sums of bytes are at most this, so that they fit 64 bits
+abbrev pub sums_cap : ℕ
+sums_cap = 2 ^ 40
+
+-- ==== The precisions of some geometries, as far as a box needs them.
+
+-- all geometries have this precision
+abbrev pub all_are : ℤ → Precisions → Bool
+all_are p Absent = true
+all_are p (One q) = int_eq p q
+all_are p Several = false
+
+-- the precisions of both groups of geometries
+abbrev pub agreed : Precisions → Precisions → Precisions
+agreed Absent b = b
+agreed (One p) Absent = One p
+agreed (One p) (One q) = if int_eq p q then One p else Several
+agreed (One p) Several = Several
+agreed Several b = Several

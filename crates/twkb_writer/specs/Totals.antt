@@ -1,8 +1,12 @@
--- The totals of the rows at one depth and of all rows below them, and what they add to the geometry
--- above them.
-use Rattle.std.specs.Prelude.{ℕ, ◌+◌, ◌≤◌, ℤ, ◌-ℤ◌, Bool, true, false, not, ◌&&◌, ◌||◌}
-use Rattle.std.specs.Prelude.{if◌then◌else◌, nat_eq, is_some, Option, None, Some}
-use Rattle.twkb_points.specs.Extent.{Extent, joined_options}
+-- The totals of the rows at one depth and of all rows below them, and what they add to the geometry above them.
+use Rattle.std.specs.Prelude.{ℕ, ◌+◌, ℤ, ◌-ℤ◌, List, [], ◌∷◌, length, Option, None, Some, ◌≤◌, Bool, true, false, not}
+use Rattle.std.specs.Prelude.{◌&&◌, ◌||◌, if◌then◌else◌, nat_eq, is_some}
+use Rattle.twkb_num.specs.Spelling.{zigzag_of}
+use Rattle.twkb_num.specs.Varint.{varint_of}
+use Rattle.twkb_points.specs.Point.{Point, origin}
+use Rattle.twkb_points.specs.Extent.{extent, Extent, joined_options}
+use Rattle.twkb_writer.specs.declared.tails.NonEmptyTailTotals.{NonEmptyTailTotals}
+use Rattle.twkb_writer.specs.declared.tails.TailTotals.{TailTotals}
 use Rattle.twkb_tree.specs.declared.kind.Kind.{Kind}
 use Rattle.twkb_tree.specs.declared.kind.Kind.TheVariants as kind
 use Rattle.twkb_grammar.specs.declared.style.Style.{Style}
@@ -10,10 +14,51 @@ use Rattle.twkb_grammar.specs.declared.style.Style.TheVariants.{Full, Plain}
 use Rattle.twkb_writer.specs.declared.totals.RowTotals.{RowTotals}
 use Rattle.twkb_writer.specs.declared.precisions.Precisions.TheVariants.{Absent, One}
 use Rattle.twkb_writer.specs.declared.sizes.Entry.{Entry}
-use Rattle.twkb_writer.specs.declared.tails.TailTotals.{TailTotals}
-use Rattle.twkb_writer.specs.Caps.{weights_cap, sums_cap}
-use Rattle.twkb_writer.specs.Precisions.{all_are, agreed}
-use Rattle.twkb_writer.specs.Tails.{number_len, signed_len, from_origin}
+use Rattle.twkb_writer.specs.Sizes.{weights_cap, sums_cap, all_are, agreed}
+
+-- ==== The number of bytes of the points from a place up to the end of their geometry.
+
+-- the number of bytes of a number
+unfoldable pub number_len : ℕ → ℕ
+number_len n = length (varint_of n)
+
+-- the number of bytes of a signed number (TWKB, zigzag)
+abbrev pub signed_len : ℤ → ℕ
+signed_len n = number_len (zigzag_of n)
+
+-- the number of bytes of the difference from one point to the next (TWKB, point arrays)
+abbrev pub step_len : Point → Point → ℕ
+step_len a b = signed_len (b.x -ℤ a.x) + signed_len (b.y -ℤ a.y)
+
+-- the number of bytes of the differences from a point through some others
+abbrev pub way_len : Point → List Point → ℕ
+way_len at [] = 0
+way_len at (p ∷ ps) = step_len at p + way_len p ps
+
+-- the number of bytes of the differences from the first point on
+abbrev pub inner_len : List Point → ℕ
+inner_len [] = 0
+inner_len (p ∷ ps) = way_len p ps
+
+-- the first point
+abbrev pub first_of : List Point → Option Point
+first_of [] = None
+first_of (p ∷ ps) = Some p
+
+-- the totals of the last points of a geometry
+abbrev pub tail_of : List Point → TailTotals
+tail_of ps = record { first = first_of ps; bytes = inner_len ps; bounds = extent ps }
+
+-- the number of bytes of all differences, the first of them from the origin
+abbrev pub from_origin : TailTotals → ℕ
+from_origin t = elim t.first [ None ↦ 0 | Some p ↦ step_len origin p + t.bytes ]
+
+-- the totals of at least one point, as totals of any number of points
+abbrev pub tail_from : NonEmptyTailTotals → TailTotals
+tail_from t = record { first = Some t.first; bytes = t.bytes; bounds = Some t.bounds }
+
+-- ==== The totals of the rows at one depth and of all rows below them, and what they add to the
+-- geometry above them.
 
 -- the totals of no rows
 abbrev pub blank : RowTotals

@@ -3,7 +3,7 @@ ghost use Rattle.std.specs.Prelude.{OnOk, IfErr};
 ghost use Rattle.twkb_tree.specs.Limits.{largest_limits, IsValid};
 ghost use Rattle.twkb_grammar.specs.Written.{canonical_blob};
 ghost use Rattle.twkb_grammar.specs.declared.style.Style.TheVariants.{Full};
-ghost use Rattle.twkb_writer.specs.EncodedGeometry.{Stopped};
+ghost use Rattle.twkb_writer.specs.Bytes.{Stopped};
 
 use crate::measured_rows::measure_flat;
 use crate::written_form::write_flat;

@@ -1,6 +1,6 @@
 //! Bytes on their way to a sink, gathered in a piece.
 ghost use Rattle.std.specs.Prelude.{◌≡◌, ◌≤◌, ◌+◌, ◌++◌, ◌-ℤ◌, length, flat_map, [], ◌∷◌};
-ghost use Rattle.twkb_num.specs.Zigzag.{zigzag_of};
+ghost use Rattle.twkb_num.specs.Spelling.{zigzag_of};
 ghost use Rattle.twkb_num.specs.Varint.{varint_of};
 ghost use Rattle.twkb_writer.specs.Bytes.{signed, id_bytes, step_bytes};
 
@@ -35,7 +35,7 @@ pub(crate) fn step_to(cursor: &mut Cursor, to: Pt) -> (u64, u64)
 }
 
 impl<'a, 'b, 'c, S: Sink> Gatherer<'a, 'b, 'c, S, S::Fault> {
-    ghost use Rattle.twkb_writer.specs.Putting.{Put};
+    ghost use Rattle.twkb_writer.specs.Bytes.{Put};
 
     // Sends the bytes of the piece to the sink by one put, keeps its fault if it refuses, and
     // empties the piece. After an earlier fault it only empties the piece.

@@ -1,8 +1,7 @@
 //! The header of a TWKB geometry: type byte, metadata byte, size and box.
 ghost use Rattle.std.specs.Prelude.{◌≡◌};
-ghost use Rattle.twkb_writer.specs.Bytes.{is_bare, metadata_of, size_bytes, box_bytes};
+ghost use Rattle.twkb_writer.specs.Bytes.{is_bare, metadata_of, size_bytes, box_bytes, Put};
 ghost use Rattle.twkb_writer.specs.Nodes.{header_of};
-ghost use Rattle.twkb_writer.specs.Putting.{Put};
 
 use crate::gatherer::Gatherer;
 use crate::sizes::Entry;

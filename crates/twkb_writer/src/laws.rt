@@ -2,7 +2,7 @@
 ghost use Rattle.std.specs.Prelude.{◌≡◌, List, length};
 ghost use Rattle.twkb_tree.specs.Tree.{Tree, IsTree};
 ghost use Rattle.twkb_tree.specs.Rows.{Row, rows};
-ghost use Rattle.twkb_grammar.specs.Spans.{geometries};
+ghost use Rattle.twkb_grammar.specs.Noting.{geometries};
 ghost use Rattle.twkb_grammar.specs.declared.style.Style.{Style};
 ghost use Rattle.twkb_writer.specs.declared.sizes.Entry.{Entry};
 ghost use Rattle.twkb_writer.specs.Sizes.{AreSizes};

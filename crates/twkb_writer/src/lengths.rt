@@ -1,11 +1,11 @@
 //! The lengths of numbers, known before they are written.
 ghost use Rattle.std.specs.Prelude.{◌≡◌, ◌≤◌};
-ghost use Rattle.twkb_writer.specs.Tails.{number_len, signed_len};
+ghost use Rattle.twkb_writer.specs.Totals.{number_len, signed_len};
 
 use twkb_num::{varint_len, zigzag};
 
 // The number of bytes of a number's shortest varint, at most 10.
-#[tactic(auto, unfolding(crate::specs::Tails::number_len))]
+#[tactic(auto, unfolding(crate::specs::Totals::number_len))]
 #[inline(always)]
 pub(crate) fn number_len(number: u64) -> u64
     ensures value { result ≡ number_len number }

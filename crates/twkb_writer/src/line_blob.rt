@@ -5,10 +5,8 @@ ghost use Rattle.twkb_tree.specs.declared.kind.Kind.TheVariants.{Linestring};
 ghost use Rattle.twkb_tree.specs.declared.limits.TheConstants.{POINTS_CAP};
 ghost use Rattle.twkb_io.specs.Sinks.{TookFront};
 ghost use Rattle.twkb_grammar.specs.Written.{canonical_blob};
-ghost use Rattle.twkb_writer.specs.Bytes.{geometry_lead};
-ghost use Rattle.twkb_writer.specs.LineBlob.{one_line, MeasuresLine};
-ghost use Rattle.twkb_writer.specs.Putting.{Put};
-ghost use Rattle.twkb_writer.specs.Reads.{ReadsExactly};
+ghost use Rattle.twkb_writer.specs.Bytes.{geometry_lead, one_line, MeasuresLine, Put};
+ghost use Rattle.twkb_writer.specs.Nodes.{ReadsExactly};
 ghost use Rattle.twkb_writer.specs.Sizes.{entry_of};
 
 use crate::gatherer::Gatherer;

@@ -2,15 +2,13 @@
 ghost use Rattle.std.specs.Prelude.{◌≡◌, ◌≤◌, ◌↔◌, ◌∷◌, [], ℤ, length, Some, IsTrue, OnOk};
 ghost use Rattle.twkb_tree.specs.declared.limits.TheConstants.{POINTS_CAP};
 ghost use Rattle.twkb_tree.specs.Limits.{largest_limits};
-ghost use Rattle.twkb_tree.specs.Rows.{row_points};
-ghost use Rattle.twkb_tree.specs.RowLists.{AreValidRowsOfOne};
+ghost use Rattle.twkb_tree.specs.Rows.{row_points, AreValidRowsOfOne};
 ghost use Rattle.twkb_tree.specs.declared.kind.Kind.TheVariants.{Point as PointKind};
 ghost use Rattle.twkb_flat.specs.Rows.{IsNode};
 ghost use Rattle.twkb_grammar.specs.declared.style.Style.{Style as InStyle};
-ghost use Rattle.twkb_writer.specs.Totals.{blank, entry_for};
-ghost use Rattle.twkb_writer.specs.Reads.{ReadsExactly};
+ghost use Rattle.twkb_writer.specs.Totals.{blank, entry_for, tail_of};
+ghost use Rattle.twkb_writer.specs.Nodes.{ReadsExactly};
 ghost use Rattle.twkb_writer.specs.Sizes.{AreSizes};
-ghost use Rattle.twkb_writer.specs.Tails.{tail_of};
 
 use crate::lengths::signed_len;
 use crate::measured_rows::{keep, look_at_reads, take_points};

@@ -8,13 +8,10 @@ ghost use Rattle.twkb_flat.specs.Rows.{row_depth_cap};
 ghost use Rattle.twkb_grammar.specs.declared.style.Style.{Style as InStyle};
 ghost use Rattle.twkb_writer.specs.declared.depths.TheConstants.{DEPTHS};
 ghost use Rattle.twkb_writer.specs.declared.tails.TailTotals.{TailTotals as PointsAhead};
-ghost use Rattle.twkb_writer.specs.Caps.{weights_cap, sums_cap};
-ghost use Rattle.twkb_writer.specs.Totals.{blank, IsSmall};
+ghost use Rattle.twkb_writer.specs.Sizes.{weights_cap, sums_cap, AreSizes};
+ghost use Rattle.twkb_writer.specs.Totals.{blank, IsSmall, tail_of};
 ghost use Rattle.twkb_writer.specs.MeasuredRows.{option_list, tail_after, TakenRow, Counted, Measures};
-ghost use Rattle.twkb_writer.specs.Nodes.{own_points_in};
-ghost use Rattle.twkb_writer.specs.Reads.{ReadsExactly};
-ghost use Rattle.twkb_writer.specs.Sizes.{AreSizes};
-ghost use Rattle.twkb_writer.specs.Tails.{tail_of};
+ghost use Rattle.twkb_writer.specs.Nodes.{own_points_in, ReadsExactly};
 
 use crate::depths::Depths;
 use crate::lone_row::measure_one;

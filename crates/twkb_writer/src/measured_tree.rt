@@ -1,14 +1,13 @@
 //! The length of a geometry's canonical blob, measured on the geometry itself, without a flat form.
 ghost use Rattle.std.specs.Prelude.{◌≡◌, ◌∷◌, [], suc, List, length};
 ghost use Rattle.twkb_tree.specs.Limits.{largest_limits, IsValid};
-ghost use Rattle.twkb_tree.specs.Rows.{Row as TableRow, rows_of_each, ring_rows};
-ghost use Rattle.twkb_tree.specs.Rows.{rows_with, rows_under, member_rows};
+ghost use Rattle.twkb_tree.specs.Rows.{Row as TableRow, rows_of_each, ring_rows, rows_with, rows_under, member_rows};
 ghost use Rattle.twkb_tree.specs.Tree.{trees};
 ghost use Rattle.twkb_flat.specs.declared.node.Row.{Row as FlatRow};
 ghost use Rattle.twkb_flat.specs.Rows.{row_with};
 ghost use Rattle.twkb_grammar.specs.Written.{canonical_blob};
 ghost use Rattle.twkb_grammar.specs.declared.style.Style.TheVariants.{Full};
-ghost use Rattle.twkb_writer.specs.MeasuredTree.{Awaits, Adds, part_row};
+ghost use Rattle.twkb_writer.specs.MeasuredRows.{Awaits, Adds, part_row};
 
 use crate::depths::Depths;
 use crate::measured_rows::{before_row, take_points, take_row};

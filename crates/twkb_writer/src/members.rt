@@ -1,10 +1,8 @@
 //! The members of a node: the nodes one level deeper, up to the end of its subtree.
 ghost use Rattle.std.specs.Prelude.{◌≡◌, length};
 ghost use Rattle.twkb_flat.specs.Rows.{IsNode};
-ghost use Rattle.twkb_writer.specs.Bytes.{ids_bytes};
-ghost use Rattle.twkb_writer.specs.Nodes.{members_of};
-ghost use Rattle.twkb_writer.specs.Putting.{Put};
-ghost use Rattle.twkb_writer.specs.Reads.{Reads};
+ghost use Rattle.twkb_writer.specs.Bytes.{ids_bytes, Put};
+ghost use Rattle.twkb_writer.specs.Nodes.{members_of, Reads};
 
 use crate::gatherer::Gatherer;
 use crate::job::PlacedNode;

@@ -4,7 +4,7 @@ ghost use Rattle.twkb_tree.specs.Tree.{IsPrecision};
 ghost use Rattle.twkb_io.specs.Sinks.{TookFront};
 ghost use Rattle.twkb_grammar.specs.Written.{canonical_blob};
 ghost use Rattle.twkb_writer.specs.MeasuredRows.{Measures};
-ghost use Rattle.twkb_writer.specs.PointBlob.{one_point, point_frame};
+ghost use Rattle.twkb_writer.specs.Bytes.{one_point, point_frame};
 
 use crate::gatherer::step_to;
 use crate::lengths::number_len;

@@ -1,9 +1,7 @@
 //! The points of a row, written as differences.
 ghost use Rattle.std.specs.Prelude.{◌≡◌, ◌+◌, ◌≤◌, ◌<◌, ◌^◌, length};
-ghost use Rattle.twkb_writer.specs.Bytes.{way_bytes, way_end};
-ghost use Rattle.twkb_writer.specs.Nodes.{own_points_in};
-ghost use Rattle.twkb_writer.specs.Putting.{Put};
-ghost use Rattle.twkb_writer.specs.Reads.{ReadsExactly};
+ghost use Rattle.twkb_writer.specs.Bytes.{way_bytes, way_end, Put};
+ghost use Rattle.twkb_writer.specs.Nodes.{own_points_in, ReadsExactly};
 
 use crate::gatherer::Gatherer;
 use crate::measured_rows::look_at_reads;

@@ -1,6 +1,6 @@
 //! The precisions of several geometries, and whether they are equal.
 ghost use Rattle.std.specs.Prelude.{◌≡◌};
-ghost use Rattle.twkb_writer.specs.Precisions.{agreed, all_are};
+ghost use Rattle.twkb_writer.specs.Sizes.{agreed, all_are};
 
 // The precisions of some geometries, as far as a box needs them.
 #[derive(Clone, Copy)]

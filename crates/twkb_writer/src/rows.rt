@@ -2,10 +2,9 @@
 ghost use Rattle.std.specs.Prelude.{◌≡◌, ◌+◌, ◌*◌, ◌≤◌, ◌<◌, ◌^◌, length, if◌then◌else◌};
 ghost use Rattle.twkb_tree.specs.Rows.{row_points};
 ghost use Rattle.twkb_flat.specs.Rows.{IsNode};
-ghost use Rattle.twkb_writer.specs.Bytes.{way_start, entry_count, entries_in};
+ghost use Rattle.twkb_writer.specs.Bytes.{way_start, entry_count, entries_in, Put};
 ghost use Rattle.twkb_writer.specs.Nodes.{members_of, listed_of, counts_of, own_of, component_of, lead_of, bytes_of};
-ghost use Rattle.twkb_writer.specs.Putting.{Put};
-ghost use Rattle.twkb_writer.specs.Reads.{Reads};
+ghost use Rattle.twkb_writer.specs.Nodes.{Reads};
 
 use crate::gatherer::Gatherer;
 use crate::header::{has_no_body, put_header};

@@ -1,9 +1,9 @@
 //! Totals of the last points of a geometry, to which points are added from the last to the first.
 ghost use Rattle.std.specs.Prelude.{◌≡◌, ◌+◌, ◌≤◌, [], ◌∷◌, List};
-ghost use Rattle.twkb_num.specs.Lens.{lanes_cap};
+ghost use Rattle.twkb_num.specs.Varint.{lanes_cap};
 ghost use Rattle.twkb_points.specs.Point.{Point};
-ghost use Rattle.twkb_writer.specs.Caps.{sums_cap};
-ghost use Rattle.twkb_writer.specs.Tails.{step_len, from_origin, tail_from, tail_of};
+ghost use Rattle.twkb_writer.specs.Sizes.{sums_cap};
+ghost use Rattle.twkb_writer.specs.Totals.{step_len, from_origin, tail_from, tail_of};
 
 use crate::lengths::signed_len;
 use twkb_num::{VarintLens, zigzag};
@@ -43,7 +43,7 @@ fn step_len(from: Pt, to: Pt) -> u64
 
 // Adds to `bytes`, which must be at most 2^31, the number of bytes of two differences: from one
 // point to a second, and from that to a third.
-#[tactic(auto, unfolding(crate::specs::Tails::number_len))]
+#[tactic(auto, unfolding(crate::specs::Totals::number_len))]
 #[inline(always)]
 fn add_two_steps(bytes: &mut VarintLens, from: Pt, by: Pt, to: Pt)
     requires room { bytes.old ≤ lanes_cap }

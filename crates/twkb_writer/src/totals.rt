@@ -1,9 +1,8 @@
 //! The totals of the rows at one depth, which give the size of the geometry above them.
 ghost use Rattle.std.specs.Prelude.{◌≡◌, ◌+◌, ◌≤◌, ◌^◌};
-ghost use Rattle.twkb_writer.specs.Caps.{weights_cap, sums_cap};
-ghost use Rattle.twkb_writer.specs.Totals.{blank, lead_len, body_len, all_bounds, box_for, box_len};
-ghost use Rattle.twkb_writer.specs.Totals.{id_len, is_point, entry_for, blob_len, with_component};
-ghost use Rattle.twkb_writer.specs.Totals.{with_geometry};
+ghost use Rattle.twkb_writer.specs.Sizes.{weights_cap, sums_cap};
+ghost use Rattle.twkb_writer.specs.Totals.{blank, lead_len, body_len, all_bounds, box_for, box_len, id_len, is_point};
+ghost use Rattle.twkb_writer.specs.Totals.{entry_for, blob_len, with_component, with_geometry};
 ghost use Rattle.twkb_grammar.specs.declared.style.Style.TheVariants.{Full};
 
 use crate::lengths::{number_len, signed_len};

@@ -5,7 +5,7 @@ ghost use Rattle.twkb_tree.specs.Rows.{rows, row_points};
 ghost use Rattle.twkb_io.specs.Sinks.{TookFront};
 ghost use Rattle.twkb_grammar.specs.Written.{canonical_blob};
 ghost use Rattle.twkb_writer.specs.Sizes.{AreSizes};
-ghost use Rattle.twkb_writer.specs.Reads.{Reads};
+ghost use Rattle.twkb_writer.specs.Nodes.{Reads};
 
 use crate::gatherer::Gatherer;
 use crate::job::Job;

@@ -1,19 +1,17 @@
 use Rattle.std.proofs.Common.{◌∙◌, List, take, ap, arith, inl, inr, refl, subst, sym}
 use Rattle.std.proofs.lemmas.Bool.{true≢false}
 use Rattle.twkb_points.specs.Point.{Point, AreInRange}
-use Rattle.twkb_tree.specs.Accepted.{Continues}
+use Rattle.twkb_tree.specs.Admits.{Continues}
 use Rattle.twkb_tree.specs.Refusal.{first_failed}
 use Rattle.twkb_tree.specs.declared.row_checks.Refusal.TheVariants.{BadPlace, CoordinateRange}
 use Rattle.twkb_tree.specs.Rows.{Row}
 use Rattle.twkb_tree.proofs.LimitLaws.{continues_largest}
 use Rattle.twkb_flat.specs.Rows.{row_with}
 use Rattle.twkb_buffer.specs.Numbers.{row_number_of}
-use Rattle.twkb_arrays.specs.JudgedRow.{RefusedAfter, row_from_c}
-use Rattle.twkb_arrays.specs.OwnPoints.{AreOutOfRange}
-use Rattle.twkb_arrays.specs.RowTests.{checks_there}
+use Rattle.twkb_arrays.specs.JudgedRow.{RefusedAfter, row_from_c, AreOutOfRange, checks_there}
 use Rattle.twkb_arrays.specs.Rows.{points_of}
-use Rattle.twkb_arrays.proofs.GatheringLemmas.{all_refused, continues_there, no_place, refused_range, refused_there}
-use Rattle.twkb_arrays.proofs.GatheringLemmas.{row_pushed}
+use Rattle.twkb_arrays.proofs.TakingLemmas.{all_refused, continues_there, no_place, refused_range, refused_there}
+use Rattle.twkb_arrays.proofs.TakingLemmas.{row_pushed}
 use Rattle.twkb_arrays.proofs.appended_row.push_judged.Goals as goal
 
 pub returns-in_default-clause-refused : goal.returns-in_default-clause-refused

@@ -3,7 +3,7 @@ use Rattle.std.specs.Prelude.{Err}
 use Rattle.twkb_tree.specs.Limits.{Allowance}
 use Rattle.twkb_blob.specs.Sessions.{session_limits}
 use Rattle.twkb_arrays.specs.FilledArrays.{EndsReading}
-use Rattle.twkb_arrays.proofs.ReadingLemmas.{ended}
+use Rattle.twkb_arrays.proofs.ArrayLemmas.{ended}
 use Rattle.twkb_arrays.proofs.TakingLemmas.{within}
 use Rattle.twkb_arrays.proofs.filled_arrays.read_all.Goals as goal
 

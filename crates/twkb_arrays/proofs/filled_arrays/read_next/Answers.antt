@@ -1,7 +1,6 @@
 use Rattle.std.proofs.Common.{◌∙◌, ◌++◌, List, ap, arith, length, sym, take}
 use Rattle.twkb_tree.specs.Rows.{Row}
-use Rattle.twkb_arrays.proofs.ArrayLemmas.{length-rest_of, rest_of}
-use Rattle.twkb_arrays.proofs.ReadingLemmas.{fed_all, fed_whole, stopped, took, went_on}
+use Rattle.twkb_arrays.proofs.ArrayLemmas.{length-rest_of, rest_of, fed_all, fed_whole, stopped, took, went_on}
 use Rattle.twkb_arrays.proofs.TakingLemmas.{some_rows}
 use Rattle.twkb_arrays.proofs.filled_arrays.read_next.Goals as goal
 

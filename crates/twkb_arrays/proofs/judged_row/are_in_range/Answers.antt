@@ -1,7 +1,7 @@
 use Rattle.std.proofs.Common.{◌+◌, pos, drop, get_or, arith}
 use Rattle.std.proofs.lemmas.List.{drop_more, drop_all}
 use Rattle.twkb_buffer.specs.declared.point.BufferPoint.{BufferPoint}
-use Rattle.twkb_arrays.proofs.JudgingLemmas.{decided, decides_more}
+use Rattle.twkb_arrays.proofs.ArrayLemmas.{decided, decides_more}
 use Rattle.twkb_arrays.proofs.judged_row.are_in_range.Goals as goal
 
 abbrev none : BufferPoint

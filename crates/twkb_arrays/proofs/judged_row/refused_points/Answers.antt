@@ -4,11 +4,10 @@ use Rattle.std.proofs.lemmas.List.{length-map}
 use Rattle.twkb_flat.specs.Rows.{row_with}
 use Rattle.twkb_tree.specs.declared.row_checks.Refusal.TheVariants.{CoordinateRange, PointsNotAllowed}
 use Rattle.twkb_tree.specs.Admits.{has_points, is_geometry, points_fit}
-use Rattle.twkb_tree.specs.Open.{row_of}
+use Rattle.twkb_tree.specs.Open.{row_of, points_checks}
 use Rattle.twkb_tree.specs.Refusal.{are_in_range, first_failed, has_none}
-use Rattle.twkb_tree.specs.RowPlace.{points_checks}
 use Rattle.twkb_arrays.specs.Rows.{point_of, points_of}
-use Rattle.twkb_arrays.proofs.JudgingLemmas.{by_range, not_allowed, range_first}
+use Rattle.twkb_arrays.proofs.ArrayLemmas.{by_range, not_allowed, range_first}
 use Rattle.twkb_arrays.proofs.judged_row.refused_points.Goals as goal
 
 pub returns-in_default : goal.returns-in_default

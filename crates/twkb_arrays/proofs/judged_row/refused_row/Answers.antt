@@ -2,8 +2,8 @@ use Rattle.std.proofs.Common.{◌≡◌, ◌∙◌, refl, sym, subst}
 use Rattle.std.specs.Prelude.{MatchOption}
 use Rattle.twkb_flat.specs.Rows.{row_with}
 use Rattle.twkb_tree.specs.Refusal.{are_in_range}
-use Rattle.twkb_tree.proofs.RowPlaceLemmas.{in_row}
-use Rattle.twkb_arrays.specs.RowTests.{IsReasonOf, range_refusal}
+use Rattle.twkb_tree.proofs.OpenLaws.{in_row}
+use Rattle.twkb_arrays.specs.JudgedRow.{IsReasonOf, range_refusal}
 use Rattle.twkb_arrays.specs.Rows.{points_of}
 use Rattle.twkb_arrays.proofs.judged_row.refused_row.Goals as goal
 

@@ -1,4 +1,4 @@
-use Rattle.twkb_arrays.proofs.TableReasons.{one_reason}
+use Rattle.twkb_arrays.proofs.WritingLaws.{one_reason}
 use Rattle.twkb_arrays.proofs.laws.one_reason.Goals as goal
 
 pub returns : goal.returns

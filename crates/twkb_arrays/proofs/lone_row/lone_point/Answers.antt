@@ -1,6 +1,6 @@
 use Rattle.std.proofs.Common.{pos, rules}
 use Rattle.twkb_buffer.specs.declared.point.BufferPoint.{BufferPoint}
-use Rattle.twkb_arrays.proofs.GatheringLemmas.{begins_point}
+use Rattle.twkb_arrays.proofs.TakingLemmas.{begins_point}
 use Rattle.twkb_arrays.proofs.lone_row.lone_point.Goals as goal
 
 abbrev none : BufferPoint

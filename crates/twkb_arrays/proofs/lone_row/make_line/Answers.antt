@@ -1,5 +1,5 @@
 use Rattle.std.proofs.Common.{◌∙◌, sym}
-use Rattle.twkb_arrays.proofs.GatheringLemmas.{line_made, precision_passed}
+use Rattle.twkb_arrays.proofs.TakingLemmas.{line_made, precision_passed}
 use Rattle.twkb_arrays.proofs.lone_row.make_line.Goals as goal
 
 pub returns : goal.returns

@@ -1,4 +1,4 @@
-use Rattle.twkb_arrays.proofs.GatheringLemmas.{point_made, precision_passed}
+use Rattle.twkb_arrays.proofs.TakingLemmas.{point_made, precision_passed}
 use Rattle.twkb_arrays.proofs.lone_row.make_row.Goals as goal
 
 pub returns : goal.returns

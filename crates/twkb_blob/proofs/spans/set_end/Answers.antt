@@ -1,6 +1,6 @@
 use Rattle.std.proofs.Common.{arith}
 use Rattle.twkb_blob.specs.Places.{measured}
-use Rattle.twkb_blob.proofs.Changing.{changed_to, changed_past}
+use Rattle.twkb_blob.proofs.Leading.{changed_to, changed_past}
 use Rattle.twkb_blob.proofs.spans.set_end.Goals as goal
 
 pub returns-then-index-len : goal.returns-then-index-len

@@ -1,5 +1,5 @@
 use Rattle.std.proofs.Common.{refl, arith}
-use Rattle.twkb_blob.proofs.Changing.{changed_to, changed_past}
+use Rattle.twkb_blob.proofs.Leading.{changed_to, changed_past}
 use Rattle.twkb_blob.proofs.spans.set_metadata.Goals as goal
 
 pub returns-then-index-len : goal.returns-then-index-len

@@ -1,4 +1,4 @@
-use Rattle.twkb_body.proofs.Admitting.{item_admitted, point_admitted}
+use Rattle.twkb_body.proofs.PointRuns.{item_admitted, point_admitted}
 use Rattle.twkb_body.proofs.laws.admitting.Goals as goal
 
 pub returns-clause-item : goal.returns-clause-item

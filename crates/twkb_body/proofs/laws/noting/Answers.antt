@@ -1,4 +1,4 @@
-use Rattle.twkb_body.proofs.Notings.{same_note, same_calm, same_count}
+use Rattle.twkb_body.proofs.Outlines.{same_note, same_calm, same_count}
 use Rattle.twkb_body.proofs.laws.noting.Goals as goal
 
 pub returns-clause-note : goal.returns-clause-note

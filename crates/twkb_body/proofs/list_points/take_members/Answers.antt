@@ -1,8 +1,8 @@
 use Rattle.std.proofs.Common.{◌<◌, ◌∙◌, Bool, refl, sym, ap, subst, arith}
 use Rattle.std.specs.Prelude.{is_some}
-use Rattle.twkb_flat.specs.Members.{EndsInMember}
+use Rattle.twkb_flat.specs.Taking.{EndsInMember}
 use Rattle.twkb_flat.proofs.PushLemmas.{member_added}
-use Rattle.twkb_body.specs.Ids.{ids_of}
+use Rattle.twkb_body.specs.Outline.{ids_of}
 use Rattle.twkb_body.specs.Running.{TakesMembers}
 use Rattle.twkb_body.proofs.PointRuns.{err_only, members_none, members_more, members_stop}
 use Rattle.twkb_body.proofs.list_points.take_members.Goals as goal

@@ -1,8 +1,8 @@
 use Rattle.std.proofs.Common.{◌≡◌, ◌+◌, ◌≤◌, length}
 use Rattle.twkb_tree.specs.declared.limits.TheConstants.{NODES_CAP, POINTS_CAP}
 use Rattle.twkb_tree.specs.Rows.{row_points}
-use Rattle.twkb_flat.specs.Members.{EndsInMember}
-use Rattle.twkb_body.specs.Ids.{ids_of}
+use Rattle.twkb_flat.specs.Taking.{EndsInMember}
+use Rattle.twkb_body.specs.Outline.{ids_of}
 use Rattle.twkb_body.specs.Running.{MembersLead}
 use Rattle.twkb_body.proofs.list_points.take_members.Given as goal
 

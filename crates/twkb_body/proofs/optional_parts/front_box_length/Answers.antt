@@ -1,5 +1,5 @@
 use Rattle.std.proofs.Common.{◌≡◌, subst, sym, ◌∙◌, arith}
-use Rattle.twkb_body.specs.OptionalParts.{SidesInFront}
+use Rattle.twkb_body.specs.HeaderParts.{SidesInFront}
 use Rattle.twkb_body.proofs.HeaderParts.{sides_none, sides_more, box_whole}
 use Rattle.twkb_body.proofs.optional_parts.front_box_length.Goals as goal
 

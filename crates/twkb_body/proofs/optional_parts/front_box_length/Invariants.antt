@@ -1,5 +1,5 @@
 use Rattle.std.proofs.Common.{◌-◌, ◌≤◌}
-use Rattle.twkb_body.specs.OptionalParts.{SidesInFront}
+use Rattle.twkb_body.specs.HeaderParts.{SidesInFront}
 use Rattle.twkb_body.proofs.optional_parts.front_box_length.Given as goal
 
 -- so many sides are complete

@@ -2,7 +2,7 @@ use Rattle.std.proofs.Common.{rules, ◌≡◌, ◌∙◌, ap, subst, refl, true
 use Rattle.std.specs.Prelude.{◌+ℤ◌}
 use Rattle.std.proofs.lemmas.Int.{to_z-of_z}
 use Rattle.twkb_points.specs.Point.{point_at}
-use Rattle.twkb_grammar.specs.PlainReader.{in_range}
+use Rattle.twkb_grammar.specs.Reading.{in_range}
 use Rattle.twkb_body.proofs.InFront.{two_numbers, passes}
 use Rattle.twkb_body.proofs.points.long_point.Goals as goal
 

@@ -1,11 +1,10 @@
 use Rattle.std.proofs.Common.{◌≡◌, suc, ◌+◌, [], ◌∷◌, subst, sym, arith}
 use Rattle.twkb_tree.specs.Rows.{Row, plain_row}
 use Rattle.twkb_tree.specs.Limits.{largest_limits}
-use Rattle.twkb_tree.specs.Accepted.{Continues}
+use Rattle.twkb_tree.specs.Admits.{Continues}
 use Rattle.twkb_tree.specs.declared.kind.Kind.TheVariants as kinds
-use Rattle.twkb_body.specs.Growing.{point_change}
-use Rattle.twkb_body.specs.Admitting.{Admits}
-use Rattle.twkb_body.specs.Head.{form_of}
+use Rattle.twkb_body.specs.Growing.{point_change, Admits}
+use Rattle.twkb_body.specs.Header.{form_of}
 use Rattle.twkb_tree.specs.declared.kind.Kind.{Kind}
 use Rattle.twkb_body.proofs.rows.put_point.Goals as goal
 

@@ -1,4 +1,4 @@
-use Rattle.twkb_body.proofs.WholePoints.{behind_header}
+use Rattle.twkb_body.proofs.InFront.{behind_header}
 use Rattle.twkb_body.proofs.whole.whole_point.Goals as goal
 
 pub returns : goal.returns

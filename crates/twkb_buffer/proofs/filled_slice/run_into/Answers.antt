@@ -1,9 +1,8 @@
 use Rattle.std.proofs.Common.{◌∙◌, Some, ap, sym}
 use Rattle.twkb_io.specs.Taps.{device_of}
-use Rattle.twkb_buffer.specs.Conversions.{Finished, Stopped}
-use Rattle.twkb_buffer.specs.Fillers.{buffer_of, held}
-use Rattle.twkb_buffer.proofs.FillLemmas.{fills, moved_back, sent_is}
-use Rattle.twkb_buffer.proofs.RunLemmas.{ran}
+use Rattle.twkb_buffer.specs.Calls.{Finished, Stopped}
+use Rattle.twkb_buffer.specs.Slices.{buffer_of, held}
+use Rattle.twkb_buffer.proofs.RunLemmas.{fills, moved_back, sent_is, ran}
 use Rattle.twkb_buffer.proofs.filled_slice.run_into.Goals as goal
 
 pub returns : goal.returns

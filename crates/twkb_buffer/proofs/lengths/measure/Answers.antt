@@ -1,5 +1,5 @@
-use Rattle.twkb_buffer.specs.Conversions.{Finished, HasLength, Stopped}
-use Rattle.twkb_buffer.proofs.LengthLemmas.{whole_length, measured}
+use Rattle.twkb_buffer.specs.Calls.{Finished, HasLength, Stopped}
+use Rattle.twkb_buffer.proofs.RunLemmas.{whole_length, measured}
 use Rattle.twkb_buffer.proofs.lengths.measure.Goals as goal
 
 pub returns : goal.returns

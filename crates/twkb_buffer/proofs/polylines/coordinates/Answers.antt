@@ -1,7 +1,7 @@
 use Rattle.std.proofs.Common.{◌∙◌, ◌+◌, [], ◌∷◌, ◌++◌, ap, drop}
-use Rattle.twkb_polyline.proofs.EncodeLemmas.{left_one}
+use Rattle.twkb_polyline.proofs.TextLemmas.{left_one}
 use Rattle.twkb_buffer.specs.Polylines.{coordinates_of}
-use Rattle.twkb_buffer.proofs.PolylineLemmas.{coordinates_put}
+use Rattle.twkb_buffer.proofs.RunLemmas.{coordinates_put}
 use Rattle.twkb_buffer.proofs.polylines.coordinates.Goals as goal
 
 pub loop-point-preserved : goal.loop-point-preserved

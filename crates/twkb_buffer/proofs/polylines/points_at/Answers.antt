@@ -2,7 +2,7 @@ use Rattle.std.proofs.Common.{◌≡◌, ◌+◌, pos, true, false, drop, get_or
 use Rattle.std.proofs.lemmas.List.{drop_more}
 use Rattle.twkb_points.specs.Point.{IsInRange, point_at}
 use Rattle.twkb_buffer.specs.declared.point.BufferPoint.{BufferPoint}
-use Rattle.twkb_buffer.proofs.PolylineLemmas.{taken_more, taken_outside}
+use Rattle.twkb_buffer.proofs.RunLemmas.{taken_more, taken_outside}
 use Rattle.twkb_buffer.proofs.polylines.points_at.Goals as goal
 
 abbrev none : BufferPoint

@@ -1,6 +1,6 @@
 -- The points so far have the first coordinates, and are in range.
 use Rattle.std.proofs.Common.{drop}
-use Rattle.twkb_buffer.proofs.PolylineLemmas.{HasTaken}
+use Rattle.twkb_buffer.proofs.RunLemmas.{HasTaken}
 use Rattle.twkb_buffer.proofs.polylines.points_at.Given as goal
 
 abbrev pub invariant-loop-coordinates : goal.invariant-loop-coordinates

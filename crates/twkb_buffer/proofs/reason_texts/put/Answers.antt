@@ -1,6 +1,6 @@
 use Rattle.std.specs.Prelude.{◌≢◌}
 use Rattle.std.proofs.Common.{◌≡◌, ◌∙◌, ℕ, ◌-◌, List, ◌++◌, length, min, take, drop, set, ap, rules}
-use Rattle.twkb_buffer.proofs.TextLemmas.{put_text}
+use Rattle.twkb_buffer.proofs.RunLemmas.{put_text}
 use Rattle.twkb_buffer.proofs.reason_texts.put.Goals as goal
 
 pub returns : goal.returns

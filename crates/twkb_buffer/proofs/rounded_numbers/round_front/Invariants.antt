@@ -1,5 +1,5 @@
 -- The numbers so far are rounded, and the places after them are unchanged.
-use Rattle.twkb_buffer.specs.Scales.{divisor_of, factor_of}
+use Rattle.twkb_buffer.specs.RoundedNumbers.{divisor_of, factor_of}
 use Rattle.twkb_buffer.proofs.RoundingLemmas.{RoundsBefore}
 use Rattle.twkb_buffer.proofs.rounded_numbers.round_front.Given as goal
 

@@ -1,7 +1,6 @@
 use Rattle.std.proofs.Common.{◌*◌, ◌^◌, arith, inl, inr}
 use Rattle.std.proofs.lemmas.Bool.{cases_lt}
-use Rattle.twkb_buffer.specs.RoundedNumbers.{above, below}
-use Rattle.twkb_buffer.specs.Scales.{divisor_of, factor_of}
+use Rattle.twkb_buffer.specs.RoundedNumbers.{above, below, divisor_of, factor_of}
 use Rattle.twkb_buffer.proofs.RoundingLemmas.{AreScales-scale, long_found, long_none, middle_size, short_near}
 use Rattle.twkb_buffer.proofs.RoundingLemmas.{short_size}
 use Rattle.twkb_buffer.proofs.rounded_numbers.size_of.Goals as goal

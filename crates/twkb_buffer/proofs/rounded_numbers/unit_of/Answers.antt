@@ -1,5 +1,5 @@
 use Rattle.std.proofs.Common.{arith}
-use Rattle.twkb_buffer.specs.Scales.{divisor_of, factor_of}
+use Rattle.twkb_buffer.specs.RoundedNumbers.{divisor_of, factor_of}
 use Rattle.twkb_buffer.proofs.RoundingLemmas.{FindsUnit-size}
 use Rattle.twkb_buffer.proofs.rounded_numbers.unit_of.Goals as goal
 

@@ -1,4 +1,4 @@
-use Rattle.twkb_buffer.proofs.SampleLemmas.{halves_rounded, large_rounded, others_rounded}
+use Rattle.twkb_buffer.proofs.RoundingLemmas.{halves_rounded, large_rounded, others_rounded}
 use Rattle.twkb_buffer.proofs.samples.doubles.Goals as goal
 
 pub returns : goal.returns

@@ -1,4 +1,4 @@
-use Rattle.twkb_command.proofs.PrintLemmas.{prints_join, short_blob_line}
+use Rattle.twkb_command.proofs.RefusalLemmas.{prints_join, short_blob_line}
 use Rattle.twkb_command.proofs.lines.put_blob.Goals as goal
 
 pub returns-clause-prints : goal.returns-clause-prints

@@ -1,4 +1,4 @@
-use Rattle.twkb_command.proofs.PrintLemmas.{prints_join, short_row_line}
+use Rattle.twkb_command.proofs.RefusalLemmas.{prints_join, short_row_line}
 use Rattle.twkb_command.proofs.lines.put_row.Goals as goal
 
 pub returns-clause-prints : goal.returns-clause-prints

@@ -1,7 +1,7 @@
 use Rattle.std.proofs.Common.{codes, sym, subst}
 use Rattle.clap.specs.Words.{found_of, rows_of}
 use Rattle.clap.proofs.WalkLemmas.{first_value-rows, one_text-rows}
-use Rattle.twkb_command.specs.Words.{GivesNest, HasNest}
+use Rattle.twkb_command.specs.CommandLine.{GivesNest, HasNest}
 use Rattle.twkb_command.proofs.RequestLemmas.{used_is}
 use Rattle.twkb_command.proofs.words.request_of.Goals as goal
 

@@ -1,4 +1,4 @@
-use Rattle.twkb_convert.proofs.OutputLemmas.{one_output, some_output}
+use Rattle.twkb_convert.proofs.RoundTrips.{one_output, some_output}
 use Rattle.twkb_convert.proofs.laws.one_packed_output.Goals as goal
 
 pub returns : goal.returns

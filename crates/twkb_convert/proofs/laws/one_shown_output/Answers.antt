@@ -1,4 +1,4 @@
-use Rattle.twkb_convert.proofs.ShownLemmas.{one_shown, some_shown}
+use Rattle.twkb_convert.proofs.FlushLemmas.{one_shown, some_shown}
 use Rattle.twkb_convert.proofs.laws.one_shown_output.Goals as goal
 
 pub returns : goal.returns

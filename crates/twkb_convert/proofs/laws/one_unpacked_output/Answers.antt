@@ -1,4 +1,4 @@
-use Rattle.twkb_convert.proofs.OutputLemmas.{one_table, some_table}
+use Rattle.twkb_convert.proofs.RoundTrips.{one_table, some_table}
 use Rattle.twkb_convert.proofs.laws.one_unpacked_output.Goals as goal
 
 pub returns : goal.returns

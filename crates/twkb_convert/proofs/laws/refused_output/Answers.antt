@@ -1,4 +1,4 @@
-use Rattle.twkb_convert.proofs.OutputLemmas.{refused_output}
+use Rattle.twkb_convert.proofs.RoundTrips.{refused_output}
 use Rattle.twkb_convert.proofs.laws.refused_output.Goals as goal
 
 pub returns : goal.returns

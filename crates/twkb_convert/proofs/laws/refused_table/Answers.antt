@@ -1,4 +1,4 @@
-use Rattle.twkb_convert.proofs.OutputLemmas.{refused_all, refused_none}
+use Rattle.twkb_convert.proofs.RoundTrips.{refused_all, refused_none}
 use Rattle.twkb_convert.proofs.laws.refused_table.Goals as goal
 
 pub returns : goal.returns

@@ -1,4 +1,4 @@
-use Rattle.twkb_convert.proofs.ShownLemmas.{show_front}
+use Rattle.twkb_convert.proofs.FlushLemmas.{show_front}
 use Rattle.twkb_convert.proofs.laws.show_front.Goals as goal
 
 pub returns : goal.returns

@@ -1,7 +1,7 @@
 use Rattle.std.proofs.Common.{◌-◌}
 use Rattle.twkb_io.specs.declared.TheConstants.{MAX_BYTES}
 use Rattle.twkb_blob.specs.StreamReaders.{reader_in}
-use Rattle.twkb_convert.specs.BlobReading.{given}
+use Rattle.twkb_convert.specs.Listed.{given}
 use Rattle.twkb_convert.specs.BlobsListed.{SentSoFar}
 use Rattle.twkb_convert.proofs.listed_stream.list_blobs.Given as goal
 

@@ -1,7 +1,7 @@
 use Rattle.std.proofs.Common.{rules, arith, refl, SFits, w8}
 use Rattle.std.proofs.lemmas.Int.{to_z-of_z}
 use Rattle.std.proofs.lemmas.Result.{err_from_is_err_and}
-use Rattle.twkb_io.specs.OutputLaws.{cut_front}
+use Rattle.twkb_io.specs.Outputs.{cut_front}
 use Rattle.twkb_convert.proofs.SendingLemmas.{cuts_point, writes_point, ends_cut, ends_fault, ends_uncounted, sent_more}
 use Rattle.twkb_convert.proofs.sent_geometries.send_points.Goals as goal
 

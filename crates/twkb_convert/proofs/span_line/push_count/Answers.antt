@@ -1,7 +1,7 @@
 use Rattle.std.proofs.Common.{◌≡◌, ◌∙◌, List, [], ◌∷◌, ◌++◌, ℕ, ◌+◌, ◌/◌, ◌%◌, ◌<◌, ◌≤◌, ap, sym, append_assoc, arith}
 use Rattle.std.proofs.Common.{decimal, length, length-append}
 use Rattle.std.proofs.lemmas.Fmt.{decimal_digit, decimal_step}
-use Rattle.twkb_convert.specs.SpanLines.{Adds}
+use Rattle.twkb_convert.specs.Listings.{Adds}
 use Rattle.twkb_convert.proofs.span_line.push_count.Goals as goal
 use Rattle.twkb_convert.proofs.span_line.push_count.Goals.{then-count-lt10, else-count-lt10+then-count-lt100}
 use Rattle.twkb_convert.proofs.span_line.push_count.Goals.{else-count-lt10+else-count-lt100}

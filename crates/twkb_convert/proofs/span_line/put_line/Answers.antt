@@ -1,7 +1,7 @@
 use Rattle.std.proofs.Common.{◌≡◌, ◌∙◌, List, [], ◌∷◌, ◌++◌, ℕ, OnOk, SFits, ap, subst, rules, w8}
 use Rattle.std.proofs.lemmas.Int.{to_z-of_z}
 use Rattle.twkb_convert.proofs.ListingLemmas.{hex_put, words_put}
-use Rattle.twkb_convert.specs.SpanLines.{span_line}
+use Rattle.twkb_convert.specs.Listings.{span_line}
 use Rattle.twkb_convert.proofs.span_line.put_line.Goals as goal
 
 pub returns : goal.returns

@@ -1,5 +1,5 @@
 use Rattle.std.proofs.Common.{◌≡◌, ◌++◌, take}
-use Rattle.twkb_convert.specs.SpanLines.{span_lines}
+use Rattle.twkb_convert.specs.Listings.{span_lines}
 use Rattle.twkb_convert.proofs.span_line.put_lines.Given as goal
 
 abbrev pub invariant-loop-span : goal.invariant-loop-span

@@ -1,6 +1,6 @@
 use Rattle.std.proofs.Common.{◌∙◌, ◌++◌, ◌∷◌, [], sym, ap, rules, SFits, w64, to_z-of_z}
-use Rattle.twkb_body.specs.Ids.{ids_read}
-use Rattle.twkb_body.proofs.Steps.{unzigzag_back}
+use Rattle.twkb_body.specs.Outline.{ids_read}
+use Rattle.twkb_body.proofs.InFront.{unzigzag_back}
 use Rattle.twkb_engine.proofs.member_items.push_id.Goals as goal
 
 pub returns-clause-pushed : goal.returns-clause-pushed

@@ -1,7 +1,6 @@
 use Rattle.std.proofs.Common.{◌∙◌, refl, ap}
 use Rattle.twkb_tree.specs.Rows.{Row}
-use Rattle.twkb_flat.specs.Components.{component_rows}
-use Rattle.twkb_flat.specs.Taking.{IsAny}
+use Rattle.twkb_flat.specs.Taking.{component_rows, IsAny}
 use Rattle.twkb_flat.proofs.BuildLemmas.{left_all, left_next, left_none, component_heads, read_id, shorter}
 use Rattle.twkb_flat.proofs.built_geometry.take_each.Goals as goal
 

@@ -3,8 +3,7 @@ use Rattle.std.proofs.Common.{List, length, drop}
 use Rattle.twkb_tree.specs.declared.kind.Kind.{Kind}
 use Rattle.twkb_tree.specs.Tree.{Ids}
 use Rattle.twkb_tree.specs.Rows.{Row}
-use Rattle.twkb_flat.specs.Components.{component_rows}
-use Rattle.twkb_flat.specs.Taking.{EachAt, IsAny}
+use Rattle.twkb_flat.specs.Taking.{component_rows, EachAt, IsAny}
 use Rattle.twkb_flat.proofs.BuildLemmas.{Left}
 use Rattle.twkb_flat.proofs.built_geometry.take_each.Given as goal
 

@@ -3,11 +3,11 @@ use Rattle.std.specs.Prelude.{OnOk}
 use Rattle.twkb_tree.specs.Tree.{trees}
 use Rattle.twkb_tree.specs.Rows.{rows_with, rows_under, member_rows}
 use Rattle.twkb_tree.specs.Size.{member_smaller}
-use Rattle.twkb_tree.proofs.MemberLemmas.{member_rows_each, own_row_first, under_shape}
+use Rattle.twkb_tree.proofs.TreeLemmas.{member_rows_each, own_row_first, under_shape}
 use Rattle.twkb_tree.proofs.RowSteps.{own_row-depth}
-use Rattle.twkb_flat.proofs.FillLemmas.{is_simple, has_rows_none, has_rows_more, has_rows_all}
-use Rattle.twkb_flat.proofs.FillLemmas.{next_goes_on, members_valid, own_may_push, own_no_deeper}
-use Rattle.twkb_flat.proofs.FillLemmas.{under_goes_on, all_pushed, under_valid, under_pushed}
+use Rattle.twkb_flat.proofs.BuildLemmas.{is_simple, has_rows_none, has_rows_more, has_rows_all, next_goes_on}
+use Rattle.twkb_flat.proofs.BuildLemmas.{members_valid, own_may_push, own_no_deeper, under_goes_on, all_pushed}
+use Rattle.twkb_flat.proofs.BuildLemmas.{under_valid, under_pushed}
 use Rattle.twkb_flat.proofs.geometry_rows.+filling.Goals as goal
 
 pub push_members-loop-member-init : goal.push_members-loop-member-init

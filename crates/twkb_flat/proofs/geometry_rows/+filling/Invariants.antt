@@ -1,6 +1,6 @@
 -- The rows of the members so far come after the old ones.
 use Rattle.twkb_tree.specs.Rows.{rows_with}
-use Rattle.twkb_flat.proofs.FillLemmas.{HasRows}
+use Rattle.twkb_flat.proofs.BuildLemmas.{HasRows}
 use Rattle.twkb_flat.proofs.geometry_rows.+filling.Given as goal
 
 abbrev pub invariant-push_members-loop-member : goal.invariant-push_members-loop-member

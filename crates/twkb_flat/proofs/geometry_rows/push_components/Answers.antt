@@ -1,8 +1,8 @@
 use Rattle.std.proofs.Common.{◌∙◌, ◌∷◌, [], ap}
 use Rattle.twkb_tree.specs.Rows.{rows_of_each, plain_row, ring_rows, polygon_rows}
 use Rattle.twkb_tree.specs.declared.kind.Kind.{Kind}
-use Rattle.twkb_tree.proofs.MemberLemmas.{under_shape}
-use Rattle.twkb_flat.proofs.FillLemmas.{no_members, under_valid, under_pushed, none_under}
+use Rattle.twkb_tree.proofs.TreeLemmas.{under_shape}
+use Rattle.twkb_flat.proofs.BuildLemmas.{no_members, under_valid, under_pushed, none_under}
 use Rattle.twkb_flat.proofs.geometry_rows.push_components.Goals as goal
 
 pub push_each-requires : goal.push_each-requires

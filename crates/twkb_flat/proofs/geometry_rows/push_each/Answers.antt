@@ -1,7 +1,7 @@
 use Rattle.std.proofs.Common.{◌∙◌, ap, arith, refl}
 use Rattle.twkb_tree.specs.Rows.{plain_row}
-use Rattle.twkb_flat.proofs.FillLemmas.{has_rows_none, has_rows_more, has_rows_all, next_goes_on}
-use Rattle.twkb_flat.proofs.FillLemmas.{own_may_push, own_no_deeper, under_goes_on, all_pushed}
+use Rattle.twkb_flat.proofs.BuildLemmas.{has_rows_none, has_rows_more, has_rows_all, next_goes_on, own_may_push}
+use Rattle.twkb_flat.proofs.BuildLemmas.{own_no_deeper, under_goes_on, all_pushed}
 use Rattle.twkb_flat.proofs.geometry_rows.push_each.Goals as goal
 
 pub loop-component-init : goal.loop-component-init

@@ -1,6 +1,6 @@
 -- The rows of the components so far come after the old ones.
-use Rattle.twkb_flat.specs.Components.{component_rows}
-use Rattle.twkb_flat.proofs.FillLemmas.{HasRows}
+use Rattle.twkb_flat.specs.Taking.{component_rows}
+use Rattle.twkb_flat.proofs.BuildLemmas.{HasRows}
 use Rattle.twkb_flat.proofs.geometry_rows.push_each.Given as goal
 
 abbrev pub invariant-loop-component : goal.invariant-loop-component

@@ -1,5 +1,5 @@
 use Rattle.std.proofs.Common.{arith}
-use Rattle.twkb_flat.proofs.LastKinds.{last_is, last_of}
+use Rattle.twkb_flat.proofs.LastPoint.{last_is, last_of}
 use Rattle.twkb_flat.proofs.kept_nodes.ends_in_line.Goals as goal
 
 pub returns : goal.returns

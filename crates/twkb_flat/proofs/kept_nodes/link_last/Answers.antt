@@ -1,5 +1,5 @@
 use Rattle.std.proofs.Common.{List, ℕ, sym, subst}
-use Rattle.twkb_flat.specs.Links.{Linked}
+use Rattle.twkb_flat.specs.Rows.{Linked}
 use Rattle.twkb_flat.specs.KeptNodes.{depths_in}
 use Rattle.twkb_flat.proofs.LinkLemmas.{read_linked}
 use Rattle.twkb_flat.proofs.kept_nodes.link_last.Goals as goal

@@ -1,5 +1,5 @@
 use Rattle.std.proofs.Common.{arith}
-use Rattle.twkb_flat.proofs.OpenPlaceLemmas.{first_next, later_next}
+use Rattle.twkb_flat.proofs.LastPoint.{first_next, later_next}
 use Rattle.twkb_flat.proofs.row_test.is_next.Goals as goal
 
 pub returns-then-levels-eq0 : goal.returns-then-levels-eq0

@@ -1,4 +1,4 @@
-use Rattle.twkb_grammar.proofs.Either.{made_exactly, refused_exactly, answered}
+use Rattle.twkb_grammar.proofs.OneFault.{made_exactly, refused_exactly, answered}
 use Rattle.twkb_grammar.proofs.laws.plain_reader.Goals as goal
 
 pub returns-clause-made : goal.returns-clause-made

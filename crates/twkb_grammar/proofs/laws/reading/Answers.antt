@@ -1,6 +1,6 @@
-use Rattle.twkb_grammar.proofs.Running.{reached_nothing, reached_bytes, leads, reached_blob, reached_cut, reached_long}
-use Rattle.twkb_grammar.proofs.Running.{reached_end}
-use Rattle.twkb_grammar.proofs.Frames.{reached_depth, reached_frames, reached_few}
+use Rattle.twkb_grammar.proofs.Running.{reached_nothing, reached_bytes, leads, reached_blob, reached_cut}
+use Rattle.twkb_grammar.proofs.Running.{reached_long, reached_end}
+use Rattle.twkb_grammar.proofs.Parts.{reached_depth, reached_frames, reached_few}
 use Rattle.twkb_grammar.proofs.laws.reading.Goals as goal
 
 pub returns-clause-starts : goal.returns-clause-starts

@@ -1,4 +1,4 @@
-use Rattle.twkb_grammar.proofs.SpanLaws.{one_list, blob_many, blob_first, blob_moved}
+use Rattle.twkb_grammar.proofs.NotedSpans.{one_list, blob_many, blob_first, blob_moved}
 use Rattle.twkb_grammar.proofs.laws.spans.Goals as goal
 
 pub returns-clause-one_list : goal.returns-clause-one_list

@@ -1,5 +1,5 @@
 use Rattle.std.proofs.Common.{refl}
-use Rattle.twkb_grammar.proofs.Either.{standard_allowed, fault_by}
+use Rattle.twkb_grammar.proofs.OneFault.{standard_allowed, fault_by}
 use Rattle.twkb_grammar.proofs.samples.cut.Goals as goal
 
 pub returns : goal.returns

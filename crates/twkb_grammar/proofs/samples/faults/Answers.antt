@@ -1,6 +1,6 @@
 use Rattle.std.proofs.Common.{refl}
-use Rattle.twkb_grammar.proofs.Either.{standard_allowed, nest_eight_allowed, no_nest_allowed, two_nodes_allowed}
-use Rattle.twkb_grammar.proofs.Either.{one_point_only_allowed, no_points_allowed, fault_by}
+use Rattle.twkb_grammar.proofs.OneFault.{standard_allowed, nest_eight_allowed, no_nest_allowed, two_nodes_allowed}
+use Rattle.twkb_grammar.proofs.OneFault.{one_point_only_allowed, no_points_allowed, fault_by}
 use Rattle.twkb_grammar.specs.Samples.{standard, nest_eight, no_nest, two_nodes, one_point_only}
 use Rattle.twkb_grammar.specs.Samples.{no_points, bare_collection, in_collections}
 use Rattle.twkb_grammar.proofs.samples.faults.Goals as goal

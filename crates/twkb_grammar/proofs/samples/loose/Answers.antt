@@ -1,5 +1,5 @@
 use Rattle.std.proofs.Common.{refl}
-use Rattle.twkb_grammar.proofs.Either.{standard_allowed, nest_eight_allowed, blob_by}
+use Rattle.twkb_grammar.proofs.OneFault.{standard_allowed, nest_eight_allowed, blob_by}
 use Rattle.twkb_grammar.proofs.samples.loose.Goals as goal
 
 pub returns-clause-no_size : goal.returns-clause-no_size

@@ -1,6 +1,6 @@
 use Rattle.std.proofs.Common.{refl}
 use Rattle.std.specs.Prelude.{[], ◌∷◌}
-use Rattle.twkb_grammar.proofs.Either.{standard_allowed, blob_by, fault_by}
+use Rattle.twkb_grammar.proofs.OneFault.{standard_allowed, blob_by, fault_by}
 use Rattle.twkb_grammar.proofs.samples.streams.Goals as goal
 
 pub returns-clause-cut_point : goal.returns-clause-cut_point

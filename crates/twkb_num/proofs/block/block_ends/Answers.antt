@@ -1,6 +1,6 @@
 use Rattle.std.proofs.Common.{arith}
 use Rattle.twkb_num.proofs.BlockLemmas.{ends_of}
-use Rattle.twkb_num.proofs.MarkLemmas.{ends_reach}
+use Rattle.twkb_num.proofs.FoundLemmas.{ends_reach}
 use Rattle.twkb_num.proofs.block.block_ends.Goals as goal
 
 pub returns-clause-ends : goal.returns-clause-ends

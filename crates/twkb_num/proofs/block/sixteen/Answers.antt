@@ -4,7 +4,7 @@ use lib.ListN.{replicate}
 use Rattle.std.proofs.lemmas.List.{length-drop}
 use Rattle.std.proofs.lemmas.Simd.{bitmask_splat}
 use Rattle.twkb_num.proofs.FoundLemmas.{mask_small}
-use Rattle.twkb_num.proofs.LaneLemmas.{wrapped_sub, lanes_are, above_is, length-lanes}
+use Rattle.twkb_num.proofs.ZigzagLemmas.{wrapped_sub, lanes_are, above_is, length-lanes}
 use Rattle.twkb_num.proofs.block.sixteen.Goals as goal
 
 pub returns-clause-marks : goal.returns-clause-marks

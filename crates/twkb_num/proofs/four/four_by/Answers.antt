@@ -1,11 +1,10 @@
 use Rattle.std.proofs.Common.{arith, ◌∙◌, ap, ℕ, ◌+◌, drop, get_or, map, [], ◌∷◌}
 use Rattle.std.specs.Prelude.{nat_lt}
 use Rattle.std.proofs.lemmas.List.{length-map}
-use Rattle.twkb_num.specs.Four.{unzigzagged_bits}
+use Rattle.twkb_num.specs.Block.{unzigzagged_bits}
 use Rattle.twkb_num.proofs.BlockLemmas.{lanes_read, ends_dropped}
-use Rattle.twkb_num.proofs.FoundLemmas.{marks_of}
-use Rattle.twkb_num.proofs.FoundLemmas.{four_found, numbers_small}
-use Rattle.twkb_num.proofs.FoundLemmas.{twice_found, moved_places_below, four_places_ok, numbers_found}
+use Rattle.twkb_num.proofs.FoundLemmas.{marks_of, four_found, numbers_small, twice_found, moved_places_below}
+use Rattle.twkb_num.proofs.FoundLemmas.{four_places_ok, numbers_found}
 use Rattle.twkb_num.proofs.ZigzagLemmas.{form_found}
 use Rattle.twkb_num.proofs.four.four_by.Goals as goal
 

@@ -1,7 +1,7 @@
 use Rattle.std.proofs.Common.{◌≡◌, ◌∙◌, ◌%◌, ap, get_or, refl}
 use lib.Lanes.{mask_l}
 use Rattle.twkb_num.specs.declared.places.TheConstants.{PLACES, USED}
-use Rattle.twkb_num.proofs.MarkLemmas.{two_found}
+use Rattle.twkb_num.proofs.FoundLemmas.{two_found}
 use Rattle.twkb_num.proofs.places.two_in_front.Goals as goal
 
 pub returns : goal.returns

@@ -2,7 +2,7 @@ use Rattle.std.proofs.Common.{◌∙◌, sym, arith, w8, ltb}
 use lib.Lanes.{zip2}
 use lib.ListN.{replicate}
 use Rattle.std.proofs.lemmas.Simd.{bitmask_splat}
-use Rattle.twkb_num.proofs.LaneLemmas.{wrapped_sub, above_is}
+use Rattle.twkb_num.proofs.ZigzagLemmas.{wrapped_sub, above_is}
 use Rattle.twkb_num.proofs.BlockLemmas.{marked_by, length-less}
 use Rattle.twkb_num.proofs.whole_text.ends_of.Goals as goal
 

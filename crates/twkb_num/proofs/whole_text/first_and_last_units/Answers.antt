@@ -3,8 +3,8 @@ use lib.Lanes.{zip2}
 use lib.ListN.{replicate}
 use Rattle.std.proofs.lemmas.List.{take_rest}
 use Rattle.std.proofs.lemmas.Simd.{zip2_splat}
-use Rattle.twkb_num.specs.WholeText.{first_and_last}
-use Rattle.twkb_num.proofs.LaneLemmas.{wrapped_sub}
+use Rattle.twkb_num.specs.Block.{first_and_last}
+use Rattle.twkb_num.proofs.ZigzagLemmas.{wrapped_sub}
 use Rattle.twkb_num.proofs.WordLemmas.{bytes_of}
 use Rattle.twkb_num.proofs.BlockLemmas.{bytes_are, length-first_and_last}
 use Rattle.twkb_num.proofs.whole_text.first_and_last_units.Goals as goal

@@ -1,5 +1,5 @@
 use Rattle.std.proofs.Common.{◌≡◌, ◌++◌, length, take, drop}
-use Rattle.twkb_points.specs.Differences.{differences_from, differences}
+use Rattle.twkb_points.specs.Steps.{differences_from, differences}
 use Rattle.twkb_points.proofs.differences.to_differences.Given as goal
 
 -- the differences written, and those that the points left will give, are the differences of all

@@ -3,8 +3,8 @@ use Rattle.std.proofs.Common.{ap, subst, rules, arith}
 use Rattle.std.proofs.lemmas.Grind.{common_steps}
 use Rattle.std.proofs.lemmas.Int.{to_z-of_z}
 use Rattle.twkb_points.specs.Point.{IsInRange, moved_by}
-use Rattle.twkb_points.specs.Differences.{points_of}
-use Rattle.twkb_points.proofs.StepLemmas.{points_of-differences, next_point, no_next_point, in_range_again}
+use Rattle.twkb_points.specs.Steps.{points_of}
+use Rattle.twkb_points.proofs.PointLemmas.{points_of-differences, next_point, no_next_point, in_range_again}
 use Rattle.twkb_points.proofs.differences.to_points.Goals as goal
 
 -- the next point, which `add` refuses

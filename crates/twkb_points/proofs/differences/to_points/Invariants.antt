@@ -1,5 +1,5 @@
 use Rattle.std.proofs.Common.{◌≡◌, ◌++◌, length, take, drop}
-use Rattle.twkb_points.specs.Differences.{points_from, points_of}
+use Rattle.twkb_points.specs.Steps.{points_from, points_of}
 use Rattle.twkb_points.proofs.differences.to_points.Given as goal
 
 -- the points written, and those that the differences left lead to, are the points of all

@@ -1,7 +1,7 @@
 use Rattle.std.proofs.Common.{◌+◌, rules, arith}
 use Rattle.twkb_num.proofs.BlockLemmas.{ends_after, ends_behind, ends_in_slice}
 use Rattle.twkb_points.specs.Point.{IsInner}
-use Rattle.twkb_points.proofs.StepLemmas.{near_further, eight_led}
+use Rattle.twkb_points.proofs.PointLemmas.{near_further, eight_led}
 use Rattle.twkb_points.proofs.eight.eight_points.Goals as goal
 
 pub two_by-requires-clause-near : goal.two_by-requires-clause-near

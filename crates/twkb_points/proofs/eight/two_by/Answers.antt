@@ -1,6 +1,6 @@
 use Rattle.std.proofs.Common.{rules, arith, FitsSigned, w64}
 use Rattle.std.proofs.lemmas.Int.{to_z-of_z}
-use Rattle.twkb_points.proofs.StepLemmas.{step_in_range, second_kept, two_further, two_near}
+use Rattle.twkb_points.proofs.PointLemmas.{step_in_range, second_kept, two_further, two_near}
 use Rattle.twkb_points.proofs.eight.two_by.Goals as goal
 
 pub step-one-requires-clause-x_in_range : goal.step-one-requires-clause-x_in_range

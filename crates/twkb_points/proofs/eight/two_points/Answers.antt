@@ -1,7 +1,7 @@
 use Rattle.std.proofs.Common.{refl, rules, subst, sym, FitsSigned, w64}
 use Rattle.std.proofs.lemmas.Int.{to_z-of_z}
 use Rattle.twkb_points.specs.Point.{IsInRange}
-use Rattle.twkb_points.proofs.StepLemmas.{short_is_near, two_led}
+use Rattle.twkb_points.proofs.PointLemmas.{short_is_near, two_led}
 use Rattle.twkb_points.proofs.eight.two_points.Goals as goal
 
 pub moved_near-requires-clause-near_x : goal.moved_near-requires-clause-near_x

@@ -1,4 +1,4 @@
-use Rattle.twkb_points.proofs.ExtentLemmas.{extent_is}
+use Rattle.twkb_points.proofs.PointLemmas.{extent_is}
 use Rattle.twkb_points.proofs.laws.extent_by_bounds.Goals as goal
 
 pub returns : goal.returns

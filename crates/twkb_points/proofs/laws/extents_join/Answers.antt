@@ -1,4 +1,4 @@
-use Rattle.twkb_points.proofs.ExtentLemmas.{extent-append}
+use Rattle.twkb_points.proofs.PointLemmas.{extent-append}
 use Rattle.twkb_points.proofs.laws.extents_join.Goals as goal
 
 pub returns : goal.returns

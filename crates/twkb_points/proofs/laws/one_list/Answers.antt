@@ -1,4 +1,4 @@
-use Rattle.twkb_points.proofs.StepLemmas.{differences_one}
+use Rattle.twkb_points.proofs.PointLemmas.{differences_one}
 use Rattle.twkb_points.proofs.laws.one_list.Goals as goal
 
 pub returns : goal.returns

@@ -1,4 +1,4 @@
-use Rattle.twkb_points.proofs.StepLemmas.{points_of-differences, differences-points_of}
+use Rattle.twkb_points.proofs.PointLemmas.{points_of-differences, differences-points_of}
 use Rattle.twkb_points.proofs.laws.there_and_back.Goals as goal
 
 pub returns-clause-points : goal.returns-clause-points

@@ -1,5 +1,5 @@
 use Rattle.std.proofs.Common.{arith}
-use Rattle.twkb_polyline.proofs.DecodeLemmas.{one_point}
+use Rattle.twkb_polyline.proofs.TextLemmas.{one_point}
 use Rattle.twkb_polyline.proofs.decoded_points.decode_one.Goals as goal
 
 pub returns-in-Some-clause-point : goal.returns-in-Some-clause-point

@@ -1,5 +1,5 @@
 use Rattle.std.proofs.Common.{◌≡◌, ◌<◌, length, rules}
-use Rattle.twkb_polyline.proofs.DecodeLemmas.{one_of_none, one_with_more, one_refused}
+use Rattle.twkb_polyline.proofs.TextLemmas.{one_of_none, one_with_more, one_refused}
 use Rattle.twkb_polyline.proofs.decoded_points.one_by_one.Goals as goal
 
 pub returns-then-is_empty-clause-no_other : goal.returns-then-is_empty-clause-no_other

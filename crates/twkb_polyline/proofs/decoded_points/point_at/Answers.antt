@@ -4,8 +4,8 @@ use Rattle.std.proofs.lemmas.Int.{to_z-of_z}
 use Rattle.std.proofs.lemmas.Result.{err_from_is_err_and}
 use Rattle.twkb_polyline.specs.declared.fault.PolyReason.TheVariants.{Range}
 use Rattle.twkb_polyline.specs.declared.fault.PolyFault.TheVariants.{At}
-use Rattle.twkb_polyline.proofs.DecodeLemmas.{point_read, refused_after, latitude_number, latitude_range}
-use Rattle.twkb_polyline.proofs.DecodeLemmas.{longitude_number, longitude_range, no_longitude}
+use Rattle.twkb_polyline.proofs.TextLemmas.{point_read, refused_after, latitude_number, latitude_range}
+use Rattle.twkb_polyline.proofs.TextLemmas.{longitude_number, longitude_range, no_longitude}
 use Rattle.twkb_polyline.proofs.decoded_points.point_at.Goals as goal
 
 pub returns-in_err-dy : goal.returns-in_err-dy

@@ -1,7 +1,7 @@
 use Rattle.std.proofs.Common.{◌∙◌, ◌<◌, ◌^◌, arith, rules, length, drop}
 use Rattle.std.proofs.lemmas.Result.{err_from_is_err_and}
 use Rattle.twkb_num.proofs.BlockLemmas.{ends_after, no_ends}
-use Rattle.twkb_polyline.proofs.DecodeLemmas.{points_end, put_fewer, put_none, put_on, rest_read, short_on}
+use Rattle.twkb_polyline.proofs.TextLemmas.{points_end, put_fewer, put_none, put_on, rest_read, short_on}
 use Rattle.twkb_polyline.proofs.decoded_points.read_eights.Goals as goal
 
 pub loop-left-init : goal.loop-left-init

@@ -1,7 +1,7 @@
 use Rattle.std.proofs.Common.{◌∙◌, ◌+◌, ◌-◌, ◌<◌, ◌^◌, rules, length, refl, arith}
 use Rattle.std.proofs.lemmas.Result.{err_from_is_err_and}
-use Rattle.twkb_polyline.proofs.DecodeLemmas.{has_read_all, no_memory, one_too_many, points_end, points_from, put_count}
-use Rattle.twkb_polyline.proofs.DecodeLemmas.{put_none, put_on, put_one, read_within, short_one, text_refused, two_read}
+use Rattle.twkb_polyline.proofs.TextLemmas.{has_read_all, no_memory, one_too_many, points_end, points_from, put_count}
+use Rattle.twkb_polyline.proofs.TextLemmas.{put_none, put_on, put_one, read_within, short_one, text_refused, two_read}
 use Rattle.twkb_polyline.proofs.decoded_points.read_points.Goals as goal
 
 pub loop-at-init : goal.loop-at-init

@@ -1,6 +1,6 @@
 use Rattle.std.proofs.Common.{rules, FitsSigned, w64}
 use Rattle.std.proofs.lemmas.Int.{to_z-of_z}
-use Rattle.twkb_polyline.proofs.EncodeLemmas.{pair_text}
+use Rattle.twkb_polyline.proofs.TextLemmas.{pair_text}
 use Rattle.twkb_polyline.proofs.encoded_text.push_pair.Goals as goal
 
 pub returns-clause-appended : goal.returns-clause-appended

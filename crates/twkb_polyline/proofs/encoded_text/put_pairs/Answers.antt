@@ -1,7 +1,7 @@
 use Rattle.std.proofs.Common.{[], sym, ap, append-nil, rules}
 use Rattle.std.proofs.lemmas.List.{drop_all}
-use Rattle.twkb_polyline.specs.SpelledNumbers.{points_of}
-use Rattle.twkb_polyline.proofs.EncodeLemmas.{has_put_none, has_put_more, has_put_last, put_behind, left_pair}
+use Rattle.twkb_polyline.specs.Polyline.{points_of}
+use Rattle.twkb_polyline.proofs.TextLemmas.{has_put_none, has_put_more, has_put_last, put_behind, left_pair}
 use Rattle.twkb_polyline.proofs.encoded_text.put_pairs.Goals as goal
 
 pub loop-pair-init : goal.loop-pair-init

@@ -1,8 +1,8 @@
 -- The pairs so far were appended to the text, some of them in the piece, and the cursor is at the
 -- last of them.
 use Rattle.std.proofs.Common.{◌≡◌, ℕ, List, ◌++◌, drop}
-use Rattle.twkb_polyline.specs.SpelledNumbers.{points_of}
-use Rattle.twkb_polyline.proofs.EncodeLemmas.{HasPut}
+use Rattle.twkb_polyline.specs.Polyline.{points_of}
+use Rattle.twkb_polyline.proofs.TextLemmas.{HasPut}
 use Rattle.twkb_polyline.proofs.encoded_text.put_pairs.Given as goal
 
 abbrev pub invariant-loop-pair : goal.invariant-loop-pair

@@ -1,7 +1,7 @@
 use Rattle.std.proofs.Common.{◌≡◌, ◌∙◌, [], ◌∷◌, sym, ap, append-nil, rules}
 use Rattle.std.proofs.lemmas.List.{nil_from_length}
-use Rattle.twkb_polyline.proofs.EncodeLemmas.{has_put_first, has_put_more, points_are, left_one}
-use Rattle.twkb_polyline.specs.SpelledNumbers.{points_of}
+use Rattle.twkb_polyline.proofs.TextLemmas.{has_put_first, has_put_more, points_are, left_one}
+use Rattle.twkb_polyline.specs.Polyline.{points_of}
 use Rattle.twkb_polyline.proofs.encoded_text.put_points.Goals as goal
 use Rattle.twkb_polyline.proofs.encoded_text.put_points.Goals.{then-not-is_empty+in_ok-put_pairs, else-not-is_empty}
 

@@ -1,5 +1,5 @@
 use Rattle.std.proofs.Common.{refl}
-use Rattle.twkb_num.specs.Digits.{digits, digits_within}
+use Rattle.twkb_num.specs.Spelling.{digits, digits_within}
 use Rattle.twkb_polyline.proofs.laws.samples.Goals as goal
 
 pub returns : goal.returns

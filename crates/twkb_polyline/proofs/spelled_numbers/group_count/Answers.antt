@@ -1,5 +1,5 @@
 use Rattle.std.proofs.Common.{refl}
-use Rattle.twkb_polyline.proofs.EncodeLemmas.{group_count, few_groups}
+use Rattle.twkb_polyline.proofs.TextLemmas.{group_count, few_groups}
 use Rattle.twkb_polyline.proofs.spelled_numbers.group_count.Goals as goal
 
 pub returns-clause-groups : goal.returns-clause-groups

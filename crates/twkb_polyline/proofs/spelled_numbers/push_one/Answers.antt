@@ -1,5 +1,5 @@
 use Rattle.std.proofs.Common.{ap, arith, length}
-use Rattle.twkb_polyline.proofs.EncodeLemmas.{few_characters}
+use Rattle.twkb_polyline.proofs.TextLemmas.{few_characters}
 use Rattle.twkb_polyline.proofs.spelled_numbers.push_one.Goals as goal
 
 pub push_all-requires : goal.push_all-requires

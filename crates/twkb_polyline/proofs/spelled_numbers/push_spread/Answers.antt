@@ -1,6 +1,6 @@
 use Rattle.std.proofs.Common.{◌+◌, ◌∙◌, ap, arith, length, length-append}
 use Rattle.twkb_num.proofs.SpellingLemmas.{length-low_digits}
-use Rattle.twkb_polyline.proofs.EncodeLemmas.{spelled_far}
+use Rattle.twkb_polyline.proofs.TextLemmas.{spelled_far}
 use Rattle.twkb_polyline.proofs.spelled_numbers.push_spread.Goals as goal
 
 pub returns-clause-appended : goal.returns-clause-appended

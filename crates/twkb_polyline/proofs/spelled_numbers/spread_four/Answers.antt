@@ -1,5 +1,5 @@
 use Rattle.std.proofs.Common.{[], ◌∷◌}
-use Rattle.twkb_polyline.proofs.EncodeLemmas.{spread_lane}
+use Rattle.twkb_polyline.proofs.TextLemmas.{spread_lane}
 use Rattle.twkb_polyline.proofs.spelled_numbers.spread_four.Goals as goal
 
 pub returns : goal.returns

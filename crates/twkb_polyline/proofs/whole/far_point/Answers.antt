@@ -1,7 +1,7 @@
 use Rattle.std.proofs.Common.{refl, rules, FitsSigned, w64}
 use Rattle.std.proofs.lemmas.Int.{to_z-of_z}
 use Rattle.std.proofs.lemmas.List.{take_rest}
-use Rattle.twkb_polyline.proofs.DecodeLemmas.{point_in_text, near}
+use Rattle.twkb_polyline.proofs.TextLemmas.{point_in_text, near}
 use Rattle.twkb_polyline.proofs.whole.far_point.Goals as goal
 
 pub add_near-requires-clause-near_x : goal.add_near-requires-clause-near_x

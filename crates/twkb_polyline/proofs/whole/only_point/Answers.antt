@@ -1,7 +1,7 @@
 use Rattle.std.proofs.Common.{◌∙◌, ap, rules, FitsSigned, w64}
 use Rattle.std.proofs.lemmas.Int.{to_z-of_z}
 use Rattle.twkb_points.specs.Point.{Point, origin, moved_by}
-use Rattle.twkb_polyline.proofs.DecodeLemmas.{point_of_text}
+use Rattle.twkb_polyline.proofs.TextLemmas.{point_of_text}
 use Rattle.twkb_polyline.proofs.whole.only_point.Goals as goal
 
 pub returns-clause-read : goal.returns-clause-read

@@ -1,6 +1,6 @@
 use Rattle.std.proofs.Common.{◌∙◌, rules, FitsSigned, w64}
 use Rattle.std.proofs.lemmas.Int.{to_z-of_z}
-use Rattle.twkb_polyline.proofs.DecodeLemmas.{point_read}
+use Rattle.twkb_polyline.proofs.TextLemmas.{point_read}
 use Rattle.twkb_polyline.proofs.whole.whole_point.Goals as goal
 
 pub returns-in_err-dy : goal.returns-in_err-dy

@@ -1,5 +1,5 @@
 use Rattle.std.proofs.Common.{arith}
-use Rattle.twkb_table.proofs.DecimalLemmas.{digit_more}
+use Rattle.twkb_table.proofs.FieldLemmas.{digit_more}
 use Rattle.twkb_table.proofs.decimal.digits_of.Goals as goal
 
 pub loop-at-preserved : goal.loop-at-preserved

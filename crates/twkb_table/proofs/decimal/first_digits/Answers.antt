@@ -1,9 +1,8 @@
 use Rattle.std.proofs.Common.{◌∙◌, ◌<◌, ap, take, decimal, rules}
 use lib.Lanes.{zip2, Each1}
 use lib.ListN.{replicate}
-use Rattle.twkb_num.proofs.LaneLemmas.{wrapped_sub}
-use Rattle.twkb_table.proofs.DecimalLemmas.{digit_first}
-use Rattle.twkb_table.proofs.DigitLemmas.{eight_read}
+use Rattle.twkb_num.proofs.ZigzagLemmas.{wrapped_sub}
+use Rattle.twkb_table.proofs.FieldLemmas.{digit_first, eight_read}
 use Rattle.twkb_table.proofs.decimal.first_digits.Goals as goal
 
 pub returns-then-field-lt-EIGHT-clause-spelled : goal.returns-then-field-lt-EIGHT-clause-spelled

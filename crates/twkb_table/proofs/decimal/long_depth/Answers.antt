@@ -1,6 +1,6 @@
 use Rattle.std.proofs.Common.{◌≡◌, arith, pos}
 use Rattle.std.proofs.lemmas.Int.{ints}
-use Rattle.twkb_table.proofs.DecimalLemmas.{depth_number, depth-id}
+use Rattle.twkb_table.proofs.FieldLemmas.{depth_number, depth-id}
 use Rattle.twkb_table.proofs.decimal.long_depth.Goals as goal
 
 pub returns-in_default : goal.returns-in_default

@@ -1,6 +1,6 @@
 use Rattle.std.proofs.Common.{◌≡◌, arith}
 use Rattle.std.proofs.lemmas.Int.{ints}
-use Rattle.twkb_table.proofs.DecimalLemmas.{precision_number}
+use Rattle.twkb_table.proofs.FieldLemmas.{precision_number}
 use Rattle.twkb_table.proofs.decimal.long_precision.Goals as goal
 
 pub returns-in_default : goal.returns-in_default

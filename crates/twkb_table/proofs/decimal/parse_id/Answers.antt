@@ -1,5 +1,5 @@
 use Rattle.std.proofs.Common.{rules}
-use Rattle.twkb_table.proofs.DecimalLemmas.{one_digit}
+use Rattle.twkb_table.proofs.FieldLemmas.{one_digit}
 use Rattle.twkb_table.proofs.decimal.parse_id.Goals as goal
 
 pub returns-in-len1 : goal.returns-in-len1

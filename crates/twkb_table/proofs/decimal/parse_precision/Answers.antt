@@ -1,6 +1,6 @@
 use Rattle.std.proofs.Common.{◌≡◌, ◌-◌, arith, get_or, pos, to_z, w8}
 use Rattle.std.proofs.lemmas.Int.{ints, to_z_pos}
-use Rattle.twkb_table.proofs.DecimalLemmas.{one_digit}
+use Rattle.twkb_table.proofs.FieldLemmas.{one_digit}
 use Rattle.twkb_table.proofs.decimal.parse_precision.Goals as goal
 
 pub returns-in-len1 : goal.returns-in-len1

@@ -2,7 +2,7 @@ use Rattle.std.proofs.Common.{◌≡◌, ◌∙◌, w64, SFits, rules}
 use Rattle.std.proofs.lemmas.Int.{to_z-of_z}
 use Rattle.std.specs.Cmp.Lexicographic.{other_text}
 use Rattle.std.specs.Fmt.{signed_decimal}
-use Rattle.twkb_table.proofs.DecimalLemmas.{no_text, no_number, other_spelling}
+use Rattle.twkb_table.proofs.FieldLemmas.{no_text, no_number, other_spelling}
 use Rattle.twkb_table.proofs.decimal.read_decimal.Goals as goal
 
 pub returns-in_default : goal.returns-in_default

@@ -1,6 +1,6 @@
 use Rattle.std.proofs.Common.{rules, arith, refl}
 use Rattle.std.proofs.lemmas.Grind.{common_steps}
-use Rattle.twkb_table.specs.RowLines.{Grows, row_lines}
+use Rattle.twkb_table.specs.Text.{Grows, row_lines}
 use Rattle.twkb_table.proofs.LineLemmas.{all_counted, all_lines, few_nodes, few_points, grows_by, grows_on}
 use Rattle.twkb_table.proofs.LineLemmas.{rows_put_more, rows_put_none}
 use Rattle.twkb_table.proofs.flat_text.put_flat_rows.Goals as goal

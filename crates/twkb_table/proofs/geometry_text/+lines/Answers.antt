@@ -3,10 +3,9 @@ use Rattle.twkb_tree.specs.Tree.{nest_all, trees}
 use Rattle.twkb_tree.specs.Rows.{plain_row, ring_rows, polygon_rows, rows_of_each, member_rows}
 use Rattle.twkb_tree.specs.declared.kind.Kind.{Kind}
 use Rattle.twkb_tree.specs.Size.{member_smaller}
-use Rattle.twkb_table.specs.RowLines.{row_lines}
-use Rattle.twkb_table.specs.RecordWriting.{Writes}
-use Rattle.twkb_tree.proofs.MemberLemmas.{member_rows_each, nest_member, under_shape}
-use Rattle.twkb_table.proofs.RecordWritingLemmas.{geometry_written, has_written_all, has_written_more, has_written_none}
+use Rattle.twkb_table.specs.Text.{row_lines, Writes}
+use Rattle.twkb_tree.proofs.TreeLemmas.{member_rows_each, nest_member, under_shape}
+use Rattle.twkb_table.proofs.LineLemmas.{geometry_written, has_written_all, has_written_more, has_written_none}
 use Rattle.twkb_table.proofs.geometry_text.+lines.Goals as goal
 
 pub write_members-loop-member-init : goal.write_members-loop-member-init

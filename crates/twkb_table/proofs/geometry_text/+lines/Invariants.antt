@@ -1,6 +1,6 @@
 -- The records of the members so far were written.
 use Rattle.twkb_tree.specs.Rows.{rows_with}
-use Rattle.twkb_table.proofs.RecordWritingLemmas.{HasWritten}
+use Rattle.twkb_table.proofs.LineLemmas.{HasWritten}
 use Rattle.twkb_table.proofs.geometry_text.+lines.Given as goal
 
 abbrev pub invariant-write_members-loop-member : goal.invariant-write_members-loop-member

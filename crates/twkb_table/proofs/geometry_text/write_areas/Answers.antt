@@ -1,4 +1,4 @@
-use Rattle.twkb_table.proofs.RecordWritingLemmas.{area_written, has_written_all, has_written_more, has_written_none}
+use Rattle.twkb_table.proofs.LineLemmas.{area_written, has_written_all, has_written_more, has_written_none}
 use Rattle.twkb_table.proofs.geometry_text.write_areas.Goals as goal
 
 pub loop-rings-init : goal.loop-rings-init

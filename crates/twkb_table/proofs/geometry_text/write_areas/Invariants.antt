@@ -1,6 +1,6 @@
 -- The records of the members so far were written.
 use Rattle.twkb_tree.specs.Rows.{polygon_rows}
-use Rattle.twkb_table.proofs.RecordWritingLemmas.{HasWritten}
+use Rattle.twkb_table.proofs.LineLemmas.{HasWritten}
 use Rattle.twkb_table.proofs.geometry_text.write_areas.Given as goal
 
 abbrev pub invariant-loop-rings : goal.invariant-loop-rings

@@ -1,8 +1,7 @@
 use Rattle.std.proofs.Common.{[], ◌∷◌, subst}
 use Rattle.twkb_tree.specs.Rows.{plain_row}
-use Rattle.twkb_table.specs.RowLines.{row_lines}
-use Rattle.twkb_table.specs.RecordWriting.{Writes}
-use Rattle.twkb_table.proofs.RecordWritingLemmas.{has_written_all, has_written_more, has_written_none}
+use Rattle.twkb_table.specs.Text.{row_lines, Writes}
+use Rattle.twkb_table.proofs.LineLemmas.{has_written_all, has_written_more, has_written_none}
 use Rattle.twkb_table.proofs.geometry_text.write_lines.Goals as goal
 
 pub loop-line-init : goal.loop-line-init

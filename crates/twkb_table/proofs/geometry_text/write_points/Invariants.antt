@@ -2,7 +2,7 @@
 use Rattle.std.proofs.Common.{[], ◌∷◌}
 use Rattle.twkb_tree.specs.Rows.{plain_row}
 use Rattle.twkb_tree.specs.declared.kind.Kind.{Kind}
-use Rattle.twkb_table.proofs.RecordWritingLemmas.{HasWritten}
+use Rattle.twkb_table.proofs.LineLemmas.{HasWritten}
 use Rattle.twkb_table.proofs.geometry_text.write_points.Given as goal
 
 abbrev pub invariant-loop-point : goal.invariant-loop-point

@@ -1,5 +1,5 @@
 use Rattle.std.proofs.Common.{◌∙◌, inr}
-use Rattle.twkb_table.proofs.RecordFacts.{given_none}
+use Rattle.twkb_table.proofs.RowReaderLemmas.{given_none}
 use Rattle.twkb_table.proofs.numbered_records.new_reader.Goals as goal
 
 pub returns : goal.returns

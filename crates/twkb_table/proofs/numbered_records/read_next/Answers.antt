@@ -1,4 +1,4 @@
-use Rattle.twkb_table.proofs.RecordFacts.{given_next}
+use Rattle.twkb_table.proofs.RowReaderLemmas.{given_next}
 use Rattle.twkb_table.proofs.numbered_records.read_next.Goals as goal
 
 pub returns : goal.returns

@@ -1,5 +1,5 @@
 use Rattle.std.proofs.Common.{sym}
-use Rattle.twkb_table.proofs.OpenedLemmas.{row_written, as_entered}
+use Rattle.twkb_table.proofs.RowReaderLemmas.{row_written, as_entered}
 use Rattle.twkb_table.proofs.open_rows.write.Goals as goal
 
 pub returns-then-depth-gt0-clause-opened : goal.returns-then-depth-gt0-clause-opened

@@ -2,7 +2,7 @@ use Rattle.std.proofs.Common.{◌≡◌, ◌+◌, ◌∙◌, List, length, take,
 use Rattle.twkb_tree.specs.declared.open_rows.OpenRow.{OpenRow}
 use Rattle.twkb_tree.specs.Open.{opened}
 use Rattle.smallvec.proofs.SmallVecLemmas.{items-with_items}
-use Rattle.twkb_table.proofs.OpenedLemmas.{opened_before}
+use Rattle.twkb_table.proofs.RowReaderLemmas.{opened_before}
 use Rattle.twkb_table.proofs.open_rows.write_apart.Goals as goal
 use Rattle.twkb_table.proofs.open_rows.write_apart.Goals.{then-depth-len+in-Ok, else-depth-len}
 

@@ -1,8 +1,8 @@
 use Rattle.std.proofs.Common.{[], None, Some, ap, inr, refl, sym}
-use Rattle.twkb_tree.specs.RowPlace.{row_there}
+use Rattle.twkb_tree.specs.Open.{row_there}
 use Rattle.twkb_tree.proofs.RowForest.{id_in_range-true}
 use Rattle.twkb_table.specs.Judged.{Refused}
-use Rattle.twkb_table.proofs.PlaceVerdicts.{judged_having_id}
+use Rattle.twkb_table.proofs.Verdicts.{judged_having_id}
 use Rattle.twkb_table.proofs.places.read_id.Goals as goal
 
 pub returns-in-None-clause-read : goal.returns-in-None-clause-read

@@ -1,8 +1,7 @@
 use Rattle.std.proofs.Common.{[], None, Some, ap, inr, sym}
-use Rattle.twkb_tree.specs.RowPlace.{row_there}
+use Rattle.twkb_tree.specs.Open.{row_there}
 use Rattle.twkb_table.specs.Judged.{Refused}
-use Rattle.twkb_table.proofs.PlaceVerdicts.{judged_having_precision}
-use Rattle.twkb_table.proofs.Verdicts.{precision_in_range-true}
+use Rattle.twkb_table.proofs.Verdicts.{judged_having_precision, precision_in_range-true}
 use Rattle.twkb_table.proofs.places.read_precision.Goals as goal
 
 pub returns-in-None-clause-read : goal.returns-in-None-clause-read

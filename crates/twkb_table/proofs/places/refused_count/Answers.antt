@@ -1,9 +1,8 @@
 use Rattle.std.proofs.Common.{None, Some, ap, refl}
-use Rattle.twkb_tree.specs.Open.{row_of}
+use Rattle.twkb_tree.specs.Open.{row_of, row_there}
 use Rattle.twkb_tree.specs.Refusal.{count_checks}
-use Rattle.twkb_tree.specs.RowPlace.{row_there}
 use Rattle.twkb_table.specs.Judged.{Refused}
-use Rattle.twkb_table.proofs.PlaceVerdicts.{judged_first}
+use Rattle.twkb_table.proofs.Verdicts.{judged_first}
 use Rattle.twkb_table.proofs.places.refused_count.Goals as goal
 
 pub returns-in-None : goal.returns-in-None

@@ -1,6 +1,6 @@
 use Rattle.std.proofs.Common.{None, Some, ap}
 use Rattle.twkb_table.specs.Judged.{Refused}
-use Rattle.twkb_table.proofs.PlaceVerdicts.{judged_place}
+use Rattle.twkb_table.proofs.Verdicts.{judged_place}
 use Rattle.twkb_table.proofs.places.refused_place.Goals as goal
 
 pub returns-in-None : goal.returns-in-None

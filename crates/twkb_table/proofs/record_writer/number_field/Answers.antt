@@ -1,8 +1,8 @@
 use Rattle.std.proofs.Common.{◌≡◌, rules, arith, sym, subst, w64, SFits}
 use Rattle.std.proofs.lemmas.Int.{ints}
 use Rattle.std.specs.Fmt.{signed_decimal}
-use Rattle.twkb_table.specs.RecordWriting.{IsBare}
-use Rattle.twkb_table.proofs.Unquoted.{bare_signed}
+use Rattle.twkb_table.specs.Text.{IsBare}
+use Rattle.twkb_table.proofs.LineLemmas.{bare_signed}
 use Rattle.twkb_table.proofs.record_writer.number_field.Goals as goal
 
 pub returns-in-Some-clause-bare : goal.returns-in-Some-clause-bare

@@ -1,6 +1,6 @@
 use Rattle.std.proofs.Common.{◌≡◌, ◌++◌, rules, sym, subst}
 use Rattle.twkb_polyline.specs.Polyline.{polyline}
-use Rattle.twkb_table.specs.RowLines.{row_lines}
+use Rattle.twkb_table.specs.Text.{row_lines}
 use Rattle.twkb_table.proofs.LineLemmas.{fields_put, just_one, line_put}
 use Rattle.twkb_table.proofs.row_line.put_row.Goals as goal
 

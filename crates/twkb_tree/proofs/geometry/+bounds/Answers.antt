@@ -2,7 +2,7 @@ use Rattle.twkb_tree.specs.Size.{member_smaller}
 use Rattle.std.proofs.lemmas.Grind.{common_steps}
 use Rattle.std.proofs.Common.{rules, List, refl, arith}
 use Rattle.twkb_tree.specs.Tree.{Tree, flat, flat_all, trees}
-use Rattle.twkb_tree.proofs.ExtentSteps.{extent_step}
+use Rattle.twkb_tree.proofs.InRange.{extent_step}
 use Rattle.twkb_tree.proofs.geometry.+bounds.Goals as goal
 
 pub Members::bounds-loop-member-preserved : goal.Members::bounds-loop-member-preserved

@@ -1,6 +1,6 @@
 use Rattle.twkb_tree.specs.Size.{member_smaller}
 use Rattle.std.proofs.Common.{◌∙◌, arith}
-use Rattle.twkb_tree.proofs.Copied.{copied_more, copied_all}
+use Rattle.twkb_tree.proofs.TreeLemmas.{copied_more, copied_all}
 use Rattle.twkb_tree.proofs.geometry.+copy.Goals as goal
 
 pub Members::copy-loop-member-init : goal.Members::copy-loop-member-init

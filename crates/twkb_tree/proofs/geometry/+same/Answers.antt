@@ -1,8 +1,7 @@
 use Rattle.twkb_tree.specs.Size.{member_smaller}
 use Rattle.std.proofs.Common.{rules, ◌≡◌, refl, arith}
 use Rattle.twkb_tree.specs.Tree.{precision_of}
-use Rattle.twkb_tree.proofs.Pairs.{take_pair, lists_same, lists_apart, lists_of_two_lengths}
-use Rattle.twkb_tree.proofs.Shapes.{same_trees}
+use Rattle.twkb_tree.proofs.TreeLemmas.{take_pair, lists_same, lists_apart, lists_of_two_lengths, same_trees}
 use Rattle.twkb_tree.proofs.geometry.+same.Goals as goal
 
 pub Geometry::same-returns-then-precision : goal.Geometry::same-returns-then-precision

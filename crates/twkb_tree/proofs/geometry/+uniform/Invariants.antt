@@ -1,6 +1,6 @@
 use Rattle.std.proofs.Common.{◌≡◌, drop}
 use Rattle.twkb_tree.specs.Tree.{trees}
-use Rattle.twkb_tree.specs.Uniform.{have_precision}
+use Rattle.twkb_tree.specs.Limits.{have_precision}
 use Rattle.twkb_tree.proofs.geometry.+uniform.Given as goal
 
 abbrev pub invariant-Members::have_precision-loop-member :

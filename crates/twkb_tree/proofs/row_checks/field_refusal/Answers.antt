@@ -1,7 +1,7 @@
 use Rattle.std.proofs.Common.{◌∙◌, Some, refl, sym}
 use Rattle.twkb_tree.specs.declared.row_checks.Refusal.TheVariants.{BadPrecision}
-use Rattle.twkb_tree.specs.RowPlace.{row_there}
-use Rattle.twkb_tree.proofs.RowPlaceLemmas.{in_fields}
+use Rattle.twkb_tree.specs.Open.{row_there}
+use Rattle.twkb_tree.proofs.OpenLaws.{in_fields}
 use Rattle.twkb_tree.proofs.row_checks.field_refusal.Goals as goal
 
 pub returns-in-Some-id_refusal : goal.returns-in-Some-id_refusal

@@ -1,6 +1,6 @@
 use Rattle.std.proofs.Common.{true, refl}
-use Rattle.twkb_tree.specs.RowPlace.{row_there}
-use Rattle.twkb_tree.proofs.RowPlaceLemmas.{in_row}
+use Rattle.twkb_tree.specs.Open.{row_there}
+use Rattle.twkb_tree.proofs.OpenLaws.{in_row}
 use Rattle.twkb_tree.proofs.row_checks.row_refusal.Goals as goal
 
 pub returns-in-Some : goal.returns-in-Some

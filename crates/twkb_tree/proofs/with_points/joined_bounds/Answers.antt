@@ -1,7 +1,7 @@
 use Rattle.std.proofs.lemmas.Grind.{common_steps}
 use Rattle.std.proofs.Common.{refl, arith}
 use Rattle.std.specs.Prelude.{flat_map}
-use Rattle.twkb_tree.proofs.ExtentSteps.{extent_step}
+use Rattle.twkb_tree.proofs.InRange.{extent_step}
 use Rattle.twkb_tree.proofs.with_points.joined_bounds.Goals as goal
 
 pub loop-item-preserved : goal.loop-item-preserved

@@ -1,5 +1,5 @@
 use Rattle.std.proofs.Common.{◌∙◌, ap, append-nil, to_z-of_z}
-use Rattle.twkb_writer.specs.Tails.{tail_of}
+use Rattle.twkb_writer.specs.Totals.{tail_of}
 use Rattle.twkb_writer.proofs.LoneBlobLemmas.{line_entry_is, all_own}
 use Rattle.twkb_writer.proofs.line_blob.line_entry.Goals as goal
 

@@ -1,8 +1,8 @@
 use Rattle.std.proofs.Common.{rules}
 use Rattle.std.proofs.lemmas.Result.{on_ok_weaker}
-use Rattle.twkb_writer.proofs.MeasuringSteps.{flat_measurable}
+use Rattle.twkb_writer.proofs.MeasuringParts.{flat_measurable}
 use Rattle.twkb_writer.proofs.MeasuringPass.{root_whole, reads_point, sizes_of_point, points_of_one}
-use Rattle.twkb_writer.proofs.ReadLemmas.{reads_back, exactly_none}
+use Rattle.twkb_writer.proofs.PutLemmas.{reads_back, exactly_none}
 use Rattle.twkb_writer.proofs.lone_row.measure_one.Goals as goal
 
 pub unreachable-requires : goal.unreachable-requires

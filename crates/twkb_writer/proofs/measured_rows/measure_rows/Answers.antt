@@ -1,7 +1,7 @@
 use Rattle.std.proofs.Common.{◌≡◌, ◌-◌, length, arith}
-use Rattle.twkb_writer.proofs.MeasuringSteps.{flat_measurable, measurable_from, node_depth, totals_small, tail_small}
+use Rattle.twkb_writer.proofs.MeasuringParts.{flat_measurable, measurable_from, node_depth, totals_small, tail_small}
 use Rattle.twkb_writer.proofs.MeasuringPass.{pass_start, pass_step, points_back, pass_end}
-use Rattle.twkb_writer.proofs.ReadLemmas.{reads_behind, reads_back}
+use Rattle.twkb_writer.proofs.PutLemmas.{reads_behind, reads_back}
 use Rattle.twkb_writer.proofs.BelowLemmas.{points_within}
 use Rattle.twkb_writer.proofs.measured_rows.measure_rows.Goals as goal
 

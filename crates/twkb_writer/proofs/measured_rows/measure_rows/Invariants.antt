@@ -1,7 +1,7 @@
 -- What the pass knows about the rows after its place.
 use Rattle.std.proofs.Common.{◌-◌, length, drop}
 use Rattle.twkb_tree.specs.Rows.{row_points}
-use Rattle.twkb_writer.specs.Reads.{ReadsExactly}
+use Rattle.twkb_writer.specs.Nodes.{ReadsExactly}
 use Rattle.twkb_writer.proofs.MeasuringPass.{Pass}
 use Rattle.twkb_writer.proofs.measured_rows.measure_rows.Given as goal
 

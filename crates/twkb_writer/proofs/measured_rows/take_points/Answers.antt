@@ -1,6 +1,5 @@
 use Rattle.std.proofs.Common.{◌+◌, ◌-◌, ◌*◌, ◌∙◌, arith}
-use Rattle.twkb_writer.proofs.PutLemmas.{tail_last, tail_two, tail_first}
-use Rattle.twkb_writer.proofs.ReadLemmas.{exactly_none, exactly_point, exactly_same}
+use Rattle.twkb_writer.proofs.PutLemmas.{tail_last, tail_two, tail_first, exactly_none, exactly_point, exactly_same}
 use Rattle.twkb_writer.proofs.measured_rows.take_points.Goals as goal
 
 pub loop-pair-init : goal.loop-pair-init

@@ -1,8 +1,8 @@
 -- The last points of the node come before those up to the end of its geometry.
 use Rattle.std.proofs.Common.{◌≡◌, ◌≤◌, ◌+◌, ◌*◌, ◌-◌, ◌++◌, List}
 use Rattle.twkb_points.specs.Point.{Point}
-use Rattle.twkb_writer.specs.Reads.{ReadsExactly}
-use Rattle.twkb_writer.specs.Tails.{tail_from, tail_of}
+use Rattle.twkb_writer.specs.Nodes.{ReadsExactly}
+use Rattle.twkb_writer.specs.Totals.{tail_from, tail_of}
 use Rattle.twkb_writer.proofs.PutLemmas.{part}
 use Rattle.twkb_writer.proofs.measured_rows.take_points.Given as goal
 

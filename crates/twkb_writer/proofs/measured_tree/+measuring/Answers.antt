@@ -2,7 +2,7 @@ use Rattle.std.proofs.Common.{◌∙◌, ap, arith, rules}
 use Rattle.twkb_tree.specs.Rows.{ring_rows, rows_below, rows_with}
 use Rattle.twkb_tree.specs.Size.{member_smaller}
 use Rattle.twkb_tree.specs.Tree.{multi_point, multi_line, multi_polygon}
-use Rattle.twkb_tree.proofs.MemberLemmas.{under_shape}
+use Rattle.twkb_tree.proofs.TreeLemmas.{under_shape}
 use Rattle.twkb_writer.proofs.MeasuringPass.{adds_same, awaits_same, each_none, each_awaits, each_more, each_all}
 use Rattle.twkb_writer.proofs.MeasuringPass.{geometry_shallow, under_awaits, own_awaits, geometry_added, members_rows}
 use Rattle.twkb_writer.proofs.measured_tree.+measuring.Goals as goal

@@ -1,6 +1,6 @@
 -- The rows of the members from the place on are added.
 use Rattle.twkb_tree.specs.Rows.{rows_with}
-use Rattle.twkb_writer.specs.MeasuredTree.{Adds}
+use Rattle.twkb_writer.specs.MeasuredRows.{Adds}
 use Rattle.twkb_writer.proofs.MeasuringPass.{rows_from}
 use Rattle.twkb_writer.proofs.measured_tree.+measuring.Given as goal
 

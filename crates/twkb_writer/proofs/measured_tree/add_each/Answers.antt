@@ -1,5 +1,5 @@
 use Rattle.std.proofs.Common.{arith}
-use Rattle.twkb_writer.specs.MeasuredTree.{part_row}
+use Rattle.twkb_writer.specs.MeasuredRows.{part_row}
 use Rattle.twkb_writer.proofs.MeasuringPass.{each_none, each_awaits, each_more, each_all}
 use Rattle.twkb_writer.proofs.measured_tree.add_each.Goals as goal
 

@@ -1,5 +1,5 @@
 -- The rows of the components from the place on are added.
-use Rattle.twkb_writer.specs.MeasuredTree.{Adds, part_row}
+use Rattle.twkb_writer.specs.MeasuredRows.{Adds, part_row}
 use Rattle.twkb_writer.proofs.MeasuringPass.{rows_from}
 use Rattle.twkb_writer.proofs.measured_tree.add_each.Given as goal
 

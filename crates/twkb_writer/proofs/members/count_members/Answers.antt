@@ -1,6 +1,6 @@
 use Rattle.std.proofs.Common.{ap, length, arith}
 use Rattle.twkb_writer.proofs.BelowLemmas.{node_ends, first_at, next_at, members_step, members_end}
-use Rattle.twkb_writer.proofs.ReadLemmas.{reads_none, reads_join, one_node}
+use Rattle.twkb_writer.proofs.PutLemmas.{reads_none, reads_join, one_node}
 use Rattle.twkb_writer.proofs.members.count_members.Goals as goal
 
 pub loop-child-init : goal.loop-child-init

@@ -1,6 +1,6 @@
 use Rattle.std.proofs.Common.{◌≡◌, ◌+◌, ◌-◌, ◌≤◌, length, drop}
 use Rattle.twkb_writer.specs.Bytes.{members_below}
-use Rattle.twkb_writer.specs.Reads.{Reads}
+use Rattle.twkb_writer.specs.Nodes.{Reads}
 use Rattle.twkb_writer.proofs.BelowLemmas.{At}
 use Rattle.twkb_writer.proofs.members.count_members.Given as goal
 

@@ -1,8 +1,7 @@
 use Rattle.std.proofs.Common.{◌+◌, ap, length, arith}
 use Rattle.twkb_writer.specs.Bytes.{ids_bytes}
-use Rattle.twkb_writer.proofs.PutLemmas.{begun, step, finished}
+use Rattle.twkb_writer.proofs.PutLemmas.{begun, step, finished, reads_none, reads_join, one_node}
 use Rattle.twkb_writer.proofs.BelowLemmas.{node_ends, first_at, next_at, members_step, members_end}
-use Rattle.twkb_writer.proofs.ReadLemmas.{reads_none, reads_join, one_node}
 use Rattle.twkb_writer.proofs.members.put_ids.Goals as goal
 
 pub loop-child-init : goal.loop-child-init

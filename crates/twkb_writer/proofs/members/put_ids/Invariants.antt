@@ -1,7 +1,6 @@
 use Rattle.std.proofs.Common.{◌≡◌, ℕ, ◌+◌, ◌-◌, ◌≤◌, length, drop}
-use Rattle.twkb_writer.specs.Bytes.{members_below, ids_bytes}
-use Rattle.twkb_writer.specs.Putting.{Progress}
-use Rattle.twkb_writer.specs.Reads.{Reads}
+use Rattle.twkb_writer.specs.Bytes.{members_below, ids_bytes, Progress}
+use Rattle.twkb_writer.specs.Nodes.{Reads}
 use Rattle.twkb_writer.proofs.BelowLemmas.{At}
 use Rattle.twkb_writer.proofs.members.put_ids.Given as goal
 

@@ -1,7 +1,6 @@
 use Rattle.std.proofs.Common.{◌≡◌, ◌+◌, ◌-◌, ◌≤◌, take, drop}
-use Rattle.twkb_writer.specs.Bytes.{way_bytes, way_end}
-use Rattle.twkb_writer.specs.Putting.{Progress}
-use Rattle.twkb_writer.specs.Reads.{ReadsExactly}
+use Rattle.twkb_writer.specs.Bytes.{way_bytes, way_end, Progress}
+use Rattle.twkb_writer.specs.Nodes.{ReadsExactly}
 use Rattle.twkb_writer.proofs.points.put_points.Given as goal
 
 abbrev pub invariant-loop-index : goal.invariant-loop-index

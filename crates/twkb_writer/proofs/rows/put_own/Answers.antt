@@ -1,6 +1,6 @@
 use Rattle.std.proofs.Common.{◌≡◌, ◌∙◌, sym, false}
 use Rattle.twkb_writer.specs.Bytes.{is_bare}
-use Rattle.twkb_writer.proofs.ReadLemmas.{reads_if}
+use Rattle.twkb_writer.proofs.PutLemmas.{reads_if}
 use Rattle.twkb_writer.proofs.rows.put_own.Goals as goal
 
 pub returns-clause-put : goal.returns-clause-put

@@ -1,9 +1,9 @@
 use Rattle.std.proofs.Common.{◌+◌, length, drop, ap, arith, rules}
 use Rattle.std.proofs.lemmas.List.{drop_all}
 use Rattle.twkb_writer.specs.Bytes.{members_below, rows_bytes}
-use Rattle.twkb_writer.proofs.MeasuringSteps.{flat_measurable}
-use Rattle.twkb_writer.proofs.PutLemmas.{begun, step, finished, given_up}
-use Rattle.twkb_writer.proofs.ReadLemmas.{reads_none, reads_join, reads_row, one_node, at_most}
+use Rattle.twkb_writer.proofs.MeasuringParts.{flat_measurable}
+use Rattle.twkb_writer.proofs.PutLemmas.{begun, step, finished, given_up, reads_none, reads_join, reads_row, one_node}
+use Rattle.twkb_writer.proofs.PutLemmas.{at_most}
 use Rattle.twkb_writer.proofs.BelowLemmas.{rows_step, entries_step, walks_step, points_step, points_within}
 use Rattle.twkb_writer.proofs.BelowLemmas.{next_rows, walks_twice}
 use Rattle.twkb_writer.proofs.rows.put_rows.Goals as goal

@@ -1,9 +1,8 @@
 use Rattle.std.proofs.Common.{◌≡◌, ℕ, ◌+◌, ◌≤◌, length, drop}
 use Rattle.twkb_points.specs.Point.{origin}
 use Rattle.twkb_tree.specs.Rows.{row_points}
-use Rattle.twkb_writer.specs.Bytes.{rows_bytes, entries_in}
-use Rattle.twkb_writer.specs.Putting.{Progress}
-use Rattle.twkb_writer.specs.Reads.{Reads}
+use Rattle.twkb_writer.specs.Bytes.{rows_bytes, entries_in, Progress}
+use Rattle.twkb_writer.specs.Nodes.{Reads}
 use Rattle.twkb_writer.proofs.BelowLemmas.{walks}
 use Rattle.twkb_writer.proofs.rows.put_rows.Given as goal
 

@@ -1,7 +1,7 @@
 use Rattle.std.proofs.Common.{◌∙◌, subst, sym, refl}
 use Rattle.twkb_tree.proofs.RowForest.{are_in_range-true, points_in_range}
-use Rattle.twkb_flat.specs.Stops.{IfRefused}
-use Rattle.twkb_arrays.specs.OwnPoints.{AreOutOfRange}
+use Rattle.twkb_flat.specs.Taking.{IfRefused}
+use Rattle.twkb_arrays.specs.JudgedRow.{AreOutOfRange}
 use Rattle.twkb_arrays.specs.Rows.{points_of}
 use Rattle.twkb_arrays.proofs.own_points.OwnPointsPointSource.append_to.Goals as goal
 

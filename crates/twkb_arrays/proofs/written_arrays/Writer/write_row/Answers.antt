@@ -1,5 +1,5 @@
 use Rattle.std.proofs.Common.{ℕ, List, ap, arith, length, refl}
-use Rattle.twkb_arrays.specs.LoneRow.{IsMadeFirst}
+use Rattle.twkb_arrays.specs.JudgedRow.{IsMadeFirst}
 use Rattle.twkb_arrays.specs.declared.written_arrays.Writer.{Writer}
 use Rattle.twkb_arrays.proofs.WritingLemmas.{some_bytes, first_alone, first_is_root, first_made, first_written}
 use Rattle.twkb_arrays.proofs.WritingLemmas.{lacks_memory, row_not_read, row_read}

@@ -1,6 +1,6 @@
 use Rattle.std.proofs.Common.{arith, inl, inr, subst, sym, take}
 use Rattle.std.proofs.lemmas.List.{drop-drop, length-take-le, take_rest}
-use Rattle.twkb_arrays.specs.LoneRow.{BeginWithRoot}
+use Rattle.twkb_arrays.specs.JudgedRow.{BeginWithRoot}
 use Rattle.twkb_arrays.proofs.ArrayLemmas.{length-rest_of, parts_join, some_more}
 use Rattle.twkb_arrays.proofs.WritingLemmas.{sent_within}
 use Rattle.twkb_arrays.proofs.written_arrays.Writer.write_rows.Goals as goal

@@ -1,6 +1,6 @@
 -- The rows so far are read, with their points. If no geometry is open, none was, or a root comes next.
 use Rattle.std.proofs.Common.{◌≡◌, ◌≤◌, ◌⊎◌, [], length, take, drop}
-use Rattle.twkb_arrays.specs.LoneRow.{BeginWithRoot}
+use Rattle.twkb_arrays.specs.JudgedRow.{BeginWithRoot}
 use Rattle.twkb_arrays.specs.WrittenArrays.{IsWriting}
 use Rattle.twkb_arrays.proofs.written_arrays.Writer.write_rows.Given as goal
 

@@ -4,12 +4,12 @@ use Rattle.std.specs.Result.{result_and}
 use Rattle.twkb_io.specs.Inputs as input
 use Rattle.twkb_engine.specs.State.{allowance_of}
 use Rattle.twkb_engine.specs.Standing.{IsAlive, IsAnswer, offset_in}
-use Rattle.twkb_blob.specs.Feeding.{Reads}
+use Rattle.twkb_blob.specs.Faults.{Reads}
 use Rattle.twkb_blob.specs.Readers.{IsAtBlob, ended_at, reader_input, reader_limits, spent_at, stopped_at}
 use Rattle.twkb_blob.specs.declared.fault.BlobFault.{BlobFault}
 use Rattle.twkb_blob.proofs.Answering.{read_abreast, still_abreast, next_read}
-use Rattle.twkb_blob.proofs.Leading.{alive_fed, many_fed, are_cut_off, ended, filled, not_filled, onto, refused, turned}
-use Rattle.twkb_blob.proofs.Leading.{fill_none, held_left, left_none, none_in}
+use Rattle.twkb_blob.proofs.Leading.{alive_fed, many_fed, are_cut_off, ended, filled, not_filled, onto, refused}
+use Rattle.twkb_blob.proofs.Leading.{turned, fill_none, held_left, left_none, none_in}
 use Rattle.twkb_blob.proofs.reader.Reader.read_with.Goals as goal
 use Rattle.twkb_blob.proofs.reader.Reader.read_with.Goals.{in-Err, in_default+then-is_empty}
 use Rattle.twkb_blob.proofs.reader.Reader.read_with.Goals.{in_default+else-is_empty+in-Err-feed}

@@ -2,7 +2,7 @@ use Rattle.std.proofs.Common.{◌≡◌, ◌+◌, ◌-◌}
 use Rattle.twkb_io.specs.declared.TheConstants.{MAX_BYTES}
 use Rattle.twkb_io.specs.Inputs.{given}
 use Rattle.twkb_engine.specs.Standing.{IsAlive, count_of}
-use Rattle.twkb_blob.specs.Feeding.{Onto}
+use Rattle.twkb_blob.specs.Faults.{Onto}
 use Rattle.twkb_blob.proofs.reader.Reader.read_with.Given as goal
 
 -- what is said of a blob that is read from here on, is said from the start on

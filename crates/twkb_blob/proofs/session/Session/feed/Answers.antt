@@ -2,8 +2,7 @@ use Rattle.std.proofs.Common.{◌≡◌, [], rules}
 use Rattle.std.proofs.lemmas.Result.{err_from_is_err_and}
 use Rattle.twkb_tree.proofs.RowLaws.{one_geometry}
 use Rattle.twkb_blob.specs.Sessions.{session_rows}
-use Rattle.twkb_blob.proofs.Standing.{gave_tree, no_tree}
-use Rattle.twkb_blob.proofs.Answering.{not_none}
+use Rattle.twkb_blob.proofs.Answering.{gave_tree, no_tree, not_none}
 use Rattle.twkb_blob.proofs.session.Session.feed.Goals as goal
 use Rattle.twkb_blob.proofs.session.Session.feed.Goals.{then-not-ends-via-then-not-ends}
 use Rattle.twkb_blob.proofs.session.Session.feed.Goals.{then-not-ends-via-else-not-ends+then-is_empty}

@@ -1,7 +1,7 @@
 use Rattle.std.proofs.Common.{arith, refl}
 use Rattle.std.specs.Prelude.{⊤}
 use Rattle.twkb_blob.proofs.Leading.{byte_feeds, byte_stopped}
-use Rattle.twkb_blob.proofs.Standing.{alive_with, fed_err, fed_ok}
+use Rattle.twkb_blob.proofs.Answering.{alive_with, fed_err, fed_ok}
 use Rattle.twkb_blob.proofs.session.Session.feed_apart.Goals as goal
 use Rattle.twkb_blob.proofs.session.Session.feed_apart.Goals.{then-self-2, else-self-2}
 

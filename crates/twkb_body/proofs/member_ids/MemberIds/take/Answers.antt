@@ -1,9 +1,8 @@
 use Rattle.std.proofs.Common.{◌+◌, ◌-◌, ◌<◌, ◌++◌, ◌∷◌, [], ◌∙◌, length, length-append, take, ap, sym, subst, refl}
 use Rattle.std.proofs.Common.{arith, rules, SFits, w64, to_z-of_z}
-use Rattle.twkb_body.proofs.Steps.{unzigzag_back}
-use Rattle.twkb_body.proofs.InFront.{one_within}
+use Rattle.twkb_body.proofs.InFront.{unzigzag_back, one_within}
 use Rattle.twkb_body.proofs.PointRuns.{on_err, ids_more, ids_stop, no_ids}
-use Rattle.twkb_body.specs.Ids.{ids_read}
+use Rattle.twkb_body.specs.Outline.{ids_read}
 use Rattle.twkb_body.specs.Running.{IdsRun}
 use Rattle.twkb_body.proofs.member_ids.MemberIds.take.Goals as goal
 

@@ -1,5 +1,5 @@
 use Rattle.std.proofs.Common.{◌≡◌, ◌+◌, ◌≤◌, length, take}
-use Rattle.twkb_body.specs.Ids.{ids_read}
+use Rattle.twkb_body.specs.Outline.{ids_read}
 use Rattle.twkb_body.specs.Running.{IdsRun}
 use Rattle.twkb_body.proofs.member_ids.MemberIds.take.Given as goal
 

@@ -2,7 +2,7 @@ use Rattle.std.proofs.Common.{◌≡◌, ◌-◌, ◌∙◌, [], suc, false, Som
 use Rattle.std.specs.Prelude.{if◌then◌else◌}
 use Rattle.twkb_grammar.specs.Bits.{bit}
 use Rattle.twkb_body.specs.Growing.{Nothing, applied}
-use Rattle.twkb_body.specs.Head.{head_of, many_of}
+use Rattle.twkb_body.specs.Header.{head_of, many_of}
 use Rattle.twkb_engine.specs.Collections.{frames_of}
 use Rattle.twkb_engine.specs.Taking.{own_row}
 use Rattle.twkb_engine.proofs.Parts.{counted_bare, open_at}

@@ -1,5 +1,5 @@
 use Rattle.std.proofs.Common.{rules}
-use Rattle.twkb_engine.proofs.Collections.{collection_begun}
+use Rattle.twkb_engine.proofs.Items.{collection_begun}
 use Rattle.twkb_engine.proofs.engine.Engine.begin_members.Goals as goal
 use Rattle.twkb_tree.specs.declared.kind.Kind.TheVariants.{Collection}
 use Rattle.std.proofs.Common.{◌≡◌}

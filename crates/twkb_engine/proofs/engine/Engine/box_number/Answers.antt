@@ -2,7 +2,7 @@ use Rattle.std.proofs.Common.{◌≡◌, ◌∙◌, ℕ, List, [], refl, sym, ap
 use Rattle.twkb_tree.specs.Rows.{Row}
 use Rattle.twkb_grammar.specs.Roles as role
 use Rattle.twkb_body.specs.Outline.{options}
-use Rattle.twkb_body.specs.Head.{head_of, kind_of}
+use Rattle.twkb_body.specs.Header.{head_of, kind_of}
 use Rattle.twkb_engine.specs.Standing.{IsAlive}
 use Rattle.twkb_engine.specs.Taking.{header_row}
 use Rattle.twkb_engine.specs.declared.next_item.NextItem.TheVariants as next

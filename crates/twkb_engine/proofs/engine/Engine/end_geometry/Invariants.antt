@@ -1,6 +1,6 @@
 use Rattle.std.proofs.Common.{◌≡◌, ◌-◌, ◌+◌, ◌≤◌, true, length}
 use Rattle.twkb_grammar.specs.Noting.{Notes, note_ends}
-use Rattle.twkb_grammar.specs.PlainReader.{is_exact as exact}
+use Rattle.twkb_grammar.specs.Reading.{is_exact as exact}
 use Rattle.twkb_body.specs.Outline.{outline_past_end}
 use Rattle.twkb_engine.specs.Collections.{frames_of}
 use Rattle.twkb_engine.specs.Fits.{are_shut}

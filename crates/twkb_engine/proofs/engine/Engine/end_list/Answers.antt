@@ -1,8 +1,8 @@
 use Rattle.std.proofs.Common.{◌≡◌, ◌<◌, arith, refl, true}
 use Rattle.twkb_engine.specs.Fits.{has_members, left_fit, is_bodied, IsBodyItem}
 use Rattle.twkb_engine.specs.declared.engine.Engine.{Engine}
-use Rattle.twkb_engine.proofs.Lists.{has_some, body_fits, body_kind}
-use Rattle.twkb_engine.proofs.Lists.{next_member, next_fits, next_lists_fit, next_inside, next_placed}
+use Rattle.twkb_engine.proofs.Points.{has_some, body_fits, body_kind, next_member, next_fits, next_lists_fit}
+use Rattle.twkb_engine.proofs.Points.{next_inside, next_placed}
 use Rattle.twkb_engine.proofs.engine.Engine.end_list.Goals as goal
 
 bodied : (d : Engine) → IsBodyItem d.next → is_bodied d.head.kind ≡ true

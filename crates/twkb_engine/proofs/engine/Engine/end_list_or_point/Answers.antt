@@ -4,7 +4,7 @@ use Rattle.twkb_body.specs.Outline.{Outline}
 use Rattle.twkb_body.specs.Growing.{Nothing}
 use Rattle.twkb_engine.specs.Taking.{Lands, judged_as}
 use Rattle.twkb_engine.proofs.Parts.{none_ended}
-use Rattle.twkb_engine.proofs.Lists.{body_inside}
+use Rattle.twkb_engine.proofs.Points.{body_inside}
 use Rattle.twkb_engine.proofs.engine.Engine.end_list_or_point.Goals as goal
 
 pub end_geometry-requires-clause-inside : goal.end_geometry-requires-clause-inside

@@ -1,6 +1,6 @@
 use Rattle.std.proofs.Common.{◌∙◌, Ok, refl, sym, ap, arith}
 use Rattle.twkb_body.specs.Reading.{open_count}
-use Rattle.twkb_body.specs.Head.{head_of, many_of}
+use Rattle.twkb_body.specs.Header.{head_of, many_of}
 use Rattle.twkb_engine.specs.State.{stage_at}
 use Rattle.twkb_engine.specs.Collections.{frames_of}
 use Rattle.twkb_engine.proofs.Items.{alive_room, takes_on, takes_none}

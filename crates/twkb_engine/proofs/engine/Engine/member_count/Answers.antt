@@ -1,7 +1,6 @@
 use Rattle.std.proofs.Common.{◌∙◌, ◌+◌, ◌<◌, Ok, refl, sym, ap, subst, arith, rules}
 use Rattle.std.specs.Prelude.{if◌then◌else◌}
-use Rattle.twkb_body.specs.Growing.{Nothing}
-use Rattle.twkb_body.specs.Admitting.{Admits}
+use Rattle.twkb_body.specs.Growing.{Nothing, Admits}
 use Rattle.twkb_body.specs.Reading.{open_count}
 use Rattle.twkb_engine.specs.State.{stage_at}
 use Rattle.twkb_engine.specs.Collections.{frames_of}

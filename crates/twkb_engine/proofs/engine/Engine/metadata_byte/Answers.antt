@@ -9,7 +9,7 @@ use Rattle.twkb_grammar.specs.Machine.{kind_number}
 use Rattle.twkb_grammar.specs.Roles as role
 use Rattle.twkb_body.specs.Outline.{options, outline_ends}
 use Rattle.twkb_body.specs.Growing.{id_in, header_change}
-use Rattle.twkb_body.specs.Head.{head_of, kind_of}
+use Rattle.twkb_body.specs.Header.{head_of, kind_of}
 use Rattle.twkb_engine.specs.Collections.{frames_of}
 use Rattle.twkb_engine.specs.State.{IsHere, size_roles}
 use Rattle.twkb_engine.specs.Standing.{IsAlive}

@@ -1,11 +1,10 @@
 use Rattle.std.proofs.Common.{sym, subst, ap, ◌∙◌}
-use Rattle.twkb_body.specs.Growing.{Change, applied}
-use Rattle.twkb_body.specs.Admitting.{Admits}
+use Rattle.twkb_body.specs.Growing.{Change, applied, Admits}
 use Rattle.twkb_flat.specs.declared.stop.Stop.TheVariants.{Refused}
 use Rattle.twkb_engine.specs.declared.blob_reason.BlobReason.TheVariants.{SizeMismatch}
 use Rattle.twkb_engine.specs.Taking.{last_lists, past_last, point_row}
 use Rattle.twkb_engine.proofs.Parts.{past_lists, lands_passed, lands_brought, lands_stopped, lands_unkept}
-use Rattle.twkb_engine.proofs.Lists.{point_there}
+use Rattle.twkb_engine.proofs.Points.{point_there}
 use Rattle.twkb_engine.proofs.engine.Engine.put_last_point.Goals as goal
 
 pub returns-in_err-ends-clause-shut : goal.returns-in_err-ends-clause-shut

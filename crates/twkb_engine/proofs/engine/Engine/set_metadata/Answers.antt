@@ -1,5 +1,5 @@
 use Rattle.std.proofs.Common.{[], arith}
-use Rattle.twkb_engine.proofs.Collections.{frames_length}
+use Rattle.twkb_engine.proofs.Items.{frames_length}
 use Rattle.twkb_engine.proofs.engine.Engine.set_metadata.Goals as goal
 
 pub returns-clause-placed : goal.returns-clause-placed

@@ -1,14 +1,14 @@
 use Rattle.std.proofs.Common.{◌≡◌, ◌<◌, ◌≤◌, ◌-◌, ◌+◌, ◌%◌, ◌/◌, ◌∙◌, length, sym, ap, subst, rules}
 use Rattle.std.specs.Prelude.{get_or, if◌then◌else◌}
-use Rattle.twkb_num.specs.Zigzag.{unzigzag_of}
+use Rattle.twkb_num.specs.Spelling.{unzigzag_of}
 use Rattle.twkb_grammar.specs.Fault.{announces_point}
 use Rattle.twkb_grammar.specs.Machine as machine
 use Rattle.twkb_grammar.specs.Machine.{kind_at, kind_number}
 use Rattle.twkb_body.specs.Outline.{begins}
 use Rattle.twkb_body.specs.Growing.{id_in}
 use Rattle.twkb_body.proofs.PointRuns.{on_err}
-use Rattle.twkb_body.specs.OptionalParts.{sized_head}
-use Rattle.twkb_body.specs.Head.{kind_of, IsHeadAt}
+use Rattle.twkb_body.specs.HeaderParts.{sized_head}
+use Rattle.twkb_body.specs.Header.{kind_of, IsHeadAt}
 use Rattle.twkb_body.specs.declared.head.Head as place
 use Rattle.twkb_engine.specs.Collections.{frames_of}
 use Rattle.twkb_engine.proofs.Parts.{leads_nowhere, kind_shown, stage_kind, stage_precision, any_placed, type_stops}

@@ -1,11 +1,11 @@
 use Rattle.std.proofs.Common.{rules, ◌+◌, ◌≡◌, ◌/◌, ◌∷◌, [], None, get_or, take, sym, ap, subst, arith}
-use Rattle.twkb_num.specs.Zigzag.{unzigzag_of}
+use Rattle.twkb_num.specs.Spelling.{unzigzag_of}
 use Rattle.twkb_tree.specs.Rows.{whole_row}
 use Rattle.twkb_tree.specs.declared.kind.Kind.TheVariants as kind
 use Rattle.twkb_grammar.specs.Noting.{no_notes}
 use Rattle.twkb_engine.specs.Standing.{MadeIn}
 use Rattle.twkb_body.proofs.PointRuns.{on_err}
-use Rattle.twkb_engine.specs.Notes.{point_span}
+use Rattle.twkb_engine.specs.Taking.{point_span}
 use Rattle.twkb_engine.proofs.Steps.{point_blob, root_stops, root_fed}
 use Rattle.twkb_engine.proofs.engine.Engine.take_root_point.Goals as goal
 

@@ -1,11 +1,11 @@
 use Rattle.std.proofs.Common.{◌≡◌, ◌⊎◌, ◌<◌, ◌≤◌, ◌∙◌, [], length, true, inl, inr, sym, ap, arith, rules}
 use Rattle.twkb_grammar.proofs.Running.{deep_refused}
 use Rattle.twkb_tree.specs.declared.kind.Kind.TheVariants.{Collection}
-use Rattle.twkb_body.specs.Head.{many_of}
+use Rattle.twkb_body.specs.Header.{many_of}
 use Rattle.twkb_engine.specs.State.{sums_of}
 use Rattle.twkb_engine.specs.Collections.{frames_of}
 use Rattle.twkb_engine.specs.Fits.{item_fits, has_members}
-use Rattle.twkb_engine.proofs.Collections.{frames_length}
+use Rattle.twkb_engine.proofs.Items.{frames_length}
 use Rattle.twkb_engine.proofs.Parts.{members_allowed, collection_is}
 use Rattle.twkb_engine.proofs.engine.Engine.too_many_members.Goals as goal
 use Rattle.twkb_engine.proofs.engine.Engine.too_many_members.Goals.{else-eq-via-then-eq+then-count-gt0+else-len-nest}

@@ -2,7 +2,7 @@ use Rattle.std.proofs.Common.{◌+◌, sym, subst, rules}
 use Rattle.std.proofs.lemmas.Result.{err_from_is_err_and}
 use Rattle.twkb_grammar.specs.Roles as role
 use Rattle.twkb_body.specs.Outline.{outline_ends, outline_advanced}
-use Rattle.twkb_body.specs.JudgedParts.{Passes}
+use Rattle.twkb_body.specs.HeaderParts.{Passes}
 use Rattle.twkb_engine.specs.State.{stage_at}
 use Rattle.twkb_engine.specs.Collections.{frames_of}
 use Rattle.twkb_engine.specs.Taking.{IsFree}

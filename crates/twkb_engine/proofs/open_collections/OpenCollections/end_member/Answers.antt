@@ -1,5 +1,5 @@
 use Rattle.std.proofs.Common.{refl, sym, arith}
-use Rattle.twkb_engine.proofs.Collections.{member_goes_on, member_goes_up}
+use Rattle.twkb_engine.proofs.Items.{member_goes_on, member_goes_up}
 use Rattle.twkb_engine.proofs.open_collections.OpenCollections.end_member.Goals as goal
 
 pub returns-then-innermost-gt0-clause-goes_on : goal.returns-then-innermost-gt0-clause-goes_on

@@ -1,5 +1,5 @@
 use Rattle.std.proofs.Common.{◌∙◌, sym, arith}
-use Rattle.twkb_engine.proofs.Collections.{innermost_id}
+use Rattle.twkb_engine.proofs.Items.{innermost_id}
 use Rattle.twkb_engine.proofs.open_collections.OpenCollections.id.Goals as goal
 
 pub returns : goal.returns

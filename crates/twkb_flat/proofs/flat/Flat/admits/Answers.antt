@@ -3,9 +3,9 @@ use Rattle.std.specs.Prelude.{is_none, is_some, not, Bool, true, Option, Some, N
 use Rattle.twkb_tree.specs.Limits.{Allowance, largest_limits}
 use Rattle.twkb_tree.specs.Rows.{row_points}
 use Rattle.twkb_tree.specs.Refusal.{first_failed}
-use Rattle.twkb_tree.specs.RowPlace.{row_checks}
+use Rattle.twkb_tree.specs.Open.{row_checks}
 use Rattle.twkb_flat.specs.Rows.{row_with}
-use Rattle.twkb_flat.proofs.OpenPlaceLemmas.{continues_there, decides, kept_continues, misplaced, rows_open, too_deep}
+use Rattle.twkb_flat.proofs.LastPoint.{continues_there, decides, kept_continues, misplaced, rows_open, too_deep}
 use Rattle.twkb_flat.proofs.flat.Flat.admits.Goals as goal
 
 -- what the test of an option for none says

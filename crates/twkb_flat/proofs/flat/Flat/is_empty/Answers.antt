@@ -2,7 +2,7 @@ use Rattle.std.proofs.Common.{◌≡◌, length, map, arith}
 use Rattle.std.proofs.lemmas.List.{length-map}
 use Rattle.std.proofs.lemmas.Grind.{common_steps}
 use Rattle.twkb_flat.specs.KeptNodes.{placed_of}
-use Rattle.twkb_flat.proofs.RowLemmas.{nil_rows, some_rows}
+use Rattle.twkb_flat.proofs.LinkLemmas.{nil_rows, some_rows}
 use Rattle.twkb_flat.proofs.flat.Flat.is_empty.Goals as goal
 
 pub returns-clause-value : goal.returns-clause-value

@@ -1,7 +1,6 @@
 use Rattle.std.proofs.Common.{rules, ◌∙◌, ap, inl, inr, length, arith}
 use Rattle.std.proofs.lemmas.List.{length-map}
-use Rattle.twkb_flat.proofs.RowLemmas.{length-listed}
-use Rattle.twkb_flat.proofs.NodeLemmas.{Answers, node_is}
+use Rattle.twkb_flat.proofs.LinkLemmas.{length-listed, Answers, node_is}
 use Rattle.twkb_flat.proofs.flat.Flat.node.Goals as goal
 use Rattle.twkb_flat.proofs.flat.Flat.node.Goals.{then-kept_node-id, else-kept_node-id}
 

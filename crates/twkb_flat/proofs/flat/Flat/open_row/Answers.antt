@@ -2,7 +2,7 @@ use Rattle.std.proofs.Common.{◌≡◌, ◌+◌, List, ◌<◌, sym, subst, map
 use Rattle.twkb_tree.specs.Open.{ids_by}
 use Rattle.std.specs.Prelude.{slice_get}
 use Rattle.twkb_flat.specs.declared.kept_nodes.KeptNode.{KeptNode}
-use Rattle.twkb_flat.specs.Links.{levels, OpenPlace}
+use Rattle.twkb_flat.specs.Rows.{levels, OpenPlace}
 use Rattle.twkb_flat.specs.KeptNodes.{depths_in, listed, placed_of}
 use Rattle.twkb_flat.proofs.FlatOpenLemmas.{flat_levels, row_open}
 use Rattle.twkb_flat.proofs.flat.Flat.open_row.Goals as goal

@@ -1,5 +1,5 @@
 use Rattle.std.proofs.Common.{refl, ap, length, arith}
-use Rattle.twkb_flat.proofs.RowLemmas.{flat_points}
+use Rattle.twkb_flat.proofs.LinkLemmas.{flat_points}
 use Rattle.std.proofs.lemmas.Option.{slice_get_read}
 use Rattle.twkb_flat.proofs.flat.Flat.point.Goals as goal
 

@@ -1,5 +1,5 @@
 use Rattle.std.proofs.Common.{◌∙◌, sym, ap, length}
-use Rattle.twkb_flat.proofs.RowLemmas.{flat_points}
+use Rattle.twkb_flat.proofs.LinkLemmas.{flat_points}
 use Rattle.twkb_flat.proofs.flat.Flat.point_count.Goals as goal
 
 pub returns : goal.returns

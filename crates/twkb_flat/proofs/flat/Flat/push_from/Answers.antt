@@ -1,7 +1,7 @@
 use Rattle.std.proofs.Common.{◌≡◌, List, length, map, sym, ap, ◌∙◌, subst}
 use Rattle.std.proofs.lemmas.List.{with_items_is}
 use Rattle.twkb_flat.specs.declared.kept_nodes.KeptNode.{KeptNode}
-use Rattle.twkb_flat.specs.Links.{Linked}
+use Rattle.twkb_flat.specs.Rows.{Linked}
 use Rattle.twkb_flat.specs.KeptNodes.{IsFlat, IsUnlinked, depths_in, links_in, listed, placed_of}
 use Rattle.twkb_flat.proofs.PushLemmas.{flat_after, kept_flat, kept_view, points_left, pushed_by}
 use Rattle.twkb_flat.proofs.PushLemmas.{same_count, unlinked, view_after}

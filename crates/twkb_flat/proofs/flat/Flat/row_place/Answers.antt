@@ -1,8 +1,8 @@
 use Rattle.std.proofs.Common.{length}
 use Rattle.std.specs.Prelude.{reverse}
 use Rattle.twkb_tree.specs.Rows.{row_points}
-use Rattle.twkb_tree.proofs.RowPlaceLemmas.{root_stands}
-use Rattle.twkb_flat.proofs.OpenPlaceLemmas.{other_stands}
+use Rattle.twkb_tree.proofs.OpenLaws.{root_stands}
+use Rattle.twkb_flat.proofs.LastPoint.{other_stands}
 use Rattle.twkb_flat.proofs.flat.Flat.row_place.Goals as goal
 
 pub returns-then-depth-eq0 : goal.returns-then-depth-eq0

@@ -3,9 +3,9 @@ use Rattle.std.specs.Prelude.{◌↔◌, IsTrue}
 use Rattle.twkb_tree.specs.declared.limits.TheConstants.{POINTS_CAP}
 use Rattle.twkb_tree.specs.Rows.{row_points}
 use Rattle.twkb_flat.specs.declared.kept_nodes.KeptNode.{KeptNode}
-use Rattle.twkb_flat.specs.Lasts.{LastIsLine}
-use Rattle.twkb_flat.proofs.LastKinds.{both, neither}
-use Rattle.twkb_flat.proofs.RowLemmas.{flat_points}
+use Rattle.twkb_flat.specs.KeptNodes.{LastIsLine}
+use Rattle.twkb_flat.proofs.LastPoint.{both, neither}
+use Rattle.twkb_flat.proofs.LinkLemmas.{flat_points}
 use Rattle.twkb_flat.proofs.flat.Flat.takes_point.Goals as goal
 
 pub returns-then-not-ends_in_line : goal.returns-then-not-ends_in_line

@@ -1,5 +1,5 @@
 use Rattle.std.proofs.Common.{◌≡◌, ◌≤◌, arith, rules, length}
-use Rattle.twkb_io.proofs.InputLemmas.{passed_end, passed_read}
+use Rattle.twkb_io.proofs.DeviceLemmas.{passed_end, passed_read}
 use Rattle.twkb_io.proofs.fuse.FuseRead.read.Goals as goal
 
 pub returns-clause-bytes : goal.returns-clause-bytes

@@ -2,7 +2,7 @@ use Rattle.std.proofs.Common.{◌-◌, ◌+◌, ◌≤◌, arith}
 use Rattle.std.specs.Prelude.{slice_range}
 use Rattle.twkb_io.specs.declared.TheConstants.{MAX_BYTES}
 use Rattle.twkb_io.specs.Taps.{device_of}
-use Rattle.twkb_io.proofs.InputLemmas.{consumed_front, count_fits, held_advanced, unused_advanced}
+use Rattle.twkb_io.proofs.DeviceLemmas.{consumed_front, count_fits, held_advanced, unused_advanced}
 use Rattle.twkb_io.proofs.input.Input.advance.Goals as goal
 
 pub returns-clause-gives : goal.returns-clause-gives

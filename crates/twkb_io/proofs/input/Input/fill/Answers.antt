@@ -4,8 +4,8 @@ use Rattle.std.proofs.lemmas.Result.{err_from_is_err_and}
 use Rattle.twkb_io.specs.declared.TheConstants.{MAX_BYTES}
 use Rattle.twkb_io.specs.Inputs.{rest_of}
 use Rattle.twkb_io.specs.Taps.{device_of}
-use Rattle.twkb_io.proofs.InputLemmas.{not_both, ok_no_err, ended_rest, held_rest, held_unused, kept_rest, not_spent}
-use Rattle.twkb_io.proofs.InputLemmas.{not_used_up, some_held}
+use Rattle.twkb_io.proofs.DeviceLemmas.{not_both, ok_no_err, ended_rest, held_rest, held_unused, kept_rest, not_spent}
+use Rattle.twkb_io.proofs.DeviceLemmas.{not_used_up, some_held}
 use Rattle.twkb_io.proofs.input.Input.fill.Goals as goal
 
 pub returns-then-self : goal.returns-then-self

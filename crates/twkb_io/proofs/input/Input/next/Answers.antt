@@ -1,7 +1,7 @@
 use Rattle.std.proofs.Common.{rules, ap, refl, sym}
 use Rattle.std.proofs.lemmas.Result.{err_from_is_err_and}
 use Rattle.twkb_io.specs.Inputs.{held_of}
-use Rattle.twkb_io.proofs.InputLemmas.{both_ok, ok_no_err, same_fault, kept_end, no_first}
+use Rattle.twkb_io.proofs.DeviceLemmas.{both_ok, ok_no_err, same_fault, kept_end, no_first}
 use Rattle.twkb_io.proofs.input.Input.next.Goals as goal
 
 pub returns-in_err-fill : goal.returns-in_err-fill

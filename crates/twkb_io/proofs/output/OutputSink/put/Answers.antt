@@ -4,10 +4,9 @@ use Rattle.std.specs.Prelude.{◌≢◌}
 use Rattle.std.proofs.Math.Seq.{take-length}
 use Rattle.std.proofs.lemmas.List.{length-take, length-take-le, take-append-drop}
 use Rattle.std.proofs.lemmas.Result.{err_from_is_err_and}
-use Rattle.twkb_io.specs.OutputLaws.{took_join}
-use Rattle.twkb_io.proofs.OutputLemmas.{cut_inside, cut_short, front_cut, no_device}
+use Rattle.twkb_io.specs.Outputs.{took_join}
+use Rattle.twkb_io.proofs.DeviceLemmas.{cut_inside, cut_short, front_cut, no_device, not_both}
 use Rattle.twkb_io.specs.declared.output.OutFault.TheVariants as fault
-use Rattle.twkb_io.proofs.InputLemmas.{not_both}
 use Rattle.twkb_io.proofs.output.OutputSink.put.Goals as goal
 
 regroup : (whole front rest : List ℕ) (n : ℕ) → whole ≡ front ++ rest

@@ -1,7 +1,7 @@
 use Rattle.std.proofs.Common.{◌≤◌, ◌+◌, ◌%◌, ◌∙◌, sym, ap, arith, length}
 use lib.Lanes.{sum_l, zip2}
 use Rattle.std.proofs.lemmas.Simd.{length-zip2}
-use Rattle.twkb_num.specs.Lens.{four_lens, lanes_cap}
+use Rattle.twkb_num.specs.Varint.{four_lens, lanes_cap}
 use Rattle.twkb_num.proofs.VarintLemmas.{lens_added, few_lens, grown_few}
 use Rattle.twkb_num.proofs.varint_lens.VarintLens.add_short.Goals as goal
 

@@ -1,5 +1,5 @@
 use Rattle.std.proofs.Common.{◌∙◌}
-use Rattle.twkb_points.proofs.ExtentLemmas.{extent-one_more}
+use Rattle.twkb_points.proofs.PointLemmas.{extent-one_more}
 use Rattle.twkb_points.proofs.bounds.Bounds.around.Goals as goal
 
 pub loop-point-preserved : goal.loop-point-preserved

@@ -1,6 +1,6 @@
 use Rattle.std.proofs.Common.{Some, ap, ◌∙◌, rules}
 use Rattle.twkb_points.specs.Extent.{joined}
-use Rattle.twkb_points.proofs.ExtentLemmas.{extent-append_some}
+use Rattle.twkb_points.proofs.PointLemmas.{extent-append_some}
 use Rattle.twkb_points.proofs.bounds.Bounds.merge.Goals as goal
 
 pub returns-clause-stands : goal.returns-clause-stands

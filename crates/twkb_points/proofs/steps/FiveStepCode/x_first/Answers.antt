@@ -1,6 +1,6 @@
 use Rattle.std.proofs.Common.{rules, FitsSigned, w64}
 use Rattle.std.proofs.lemmas.Int.{to_z-of_z}
-use Rattle.twkb_points.proofs.StepLemmas.{characters_in_front}
+use Rattle.twkb_points.proofs.PointLemmas.{characters_in_front}
 use Rattle.twkb_points.proofs.steps.FiveStepCode.x_first.Goals as goal
 
 pub returns-clause-steps : goal.returns-clause-steps

@@ -3,7 +3,7 @@ use Rattle.twkb_tree.specs.declared.open_rows.OpenRow.{OpenRow}
 use Rattle.twkb_tree.specs.Open.{opened}
 use Rattle.twkb_flat.specs.Rows.{row_with}
 use Rattle.smallvec.proofs.SmallVecLemmas.{items-with_items}
-use Rattle.twkb_table.proofs.OpenedLemmas.{opened_in}
+use Rattle.twkb_table.proofs.RowReaderLemmas.{opened_in}
 use Rattle.twkb_table.proofs.open_rows.OpenRows.open_row.Goals as goal
 use Rattle.twkb_table.proofs.open_rows.OpenRows.open_row.Goals.{then-depth-len+in-Ok, else-depth-len}
 

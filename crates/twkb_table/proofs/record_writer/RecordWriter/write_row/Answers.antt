@@ -2,8 +2,8 @@ use Rattle.std.proofs.Common.{◌≡◌, ◌∙◌, ap, ◌++◌, rules}
 use Rattle.std.specs.Prelude.{pos, Some}
 use Rattle.twkb_flat.specs.Rows.{row_with}
 use Rattle.twkb_polyline.specs.Polyline.{polyline}
-use Rattle.twkb_table.specs.Fields.{optional}
-use Rattle.twkb_table.proofs.RecordWritingLemmas.{row_written}
+use Rattle.twkb_table.specs.Record.{optional}
+use Rattle.twkb_table.proofs.LineLemmas.{row_written}
 use Rattle.twkb_table.proofs.record_writer.RecordWriter.write_row.Goals as goal
 
 pub returns : goal.returns

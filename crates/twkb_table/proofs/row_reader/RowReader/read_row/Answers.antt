@@ -5,8 +5,8 @@ use Rattle.twkb_tree.specs.Rows.{Row}
 use Rattle.twkb_tree.proofs.LimitLaws.{continues_largest}
 use Rattle.twkb_flat.specs.Rows.{row_with}
 use Rattle.twkb_table.specs.Judged.{Refused}
-use Rattle.twkb_table.proofs.RowReaderLemmas.{comes_next, if_refused, begins_anew, continues_below}
-use Rattle.twkb_table.proofs.RowReaderLemmas.{depth_within, keeps_next, may_wait_as, root_is}
+use Rattle.twkb_table.proofs.RowReaderLemmas.{comes_next, if_refused, begins_anew, continues_below, depth_within}
+use Rattle.twkb_table.proofs.RowReaderLemmas.{keeps_next, may_wait_as, root_is}
 use Rattle.twkb_table.proofs.row_reader.RowReader.read_row.Goals as goal
 
 -- ---- a root

@@ -1,7 +1,7 @@
 use Rattle.std.proofs.Common.{rules, SFits, w8}
 use Rattle.std.proofs.lemmas.Int.{to_z-of_z}
 use Rattle.twkb_table.specs.TableReading.{progress}
-use Rattle.twkb_table.proofs.TableCalls.{point_given}
+use Rattle.twkb_table.proofs.TableSteps.{point_given}
 use Rattle.twkb_table.proofs.table_reader.TableReader.next_point.Goals as goal
 
 pub returns-in-Ok-clause-gives : goal.returns-in-Ok-clause-gives

@@ -1,5 +1,5 @@
 use Rattle.twkb_table.specs.TableReading.{progress}
-use Rattle.twkb_table.proofs.TableCalls.{tree_given}
+use Rattle.twkb_table.proofs.TableSteps.{tree_given}
 use Rattle.twkb_table.proofs.table_reader.TableReader.next_tree.Goals as goal
 
 pub returns-clause-gives : goal.returns-clause-gives

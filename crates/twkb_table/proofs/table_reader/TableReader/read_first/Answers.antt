@@ -1,5 +1,5 @@
 use Rattle.std.proofs.Common.{inl}
-use Rattle.twkb_table.proofs.TableCalls.{first_shown}
+use Rattle.twkb_table.proofs.TableSteps.{first_shown}
 use Rattle.twkb_table.proofs.table_reader.TableReader.read_first.Goals as goal
 
 pub next_root-requires : goal.next_root-requires

@@ -1,6 +1,6 @@
 use Rattle.std.proofs.lemmas.Result.{err_from_is_err_and}
 use Rattle.twkb_table.specs.TableReading.{progress}
-use Rattle.twkb_table.proofs.TableCalls.{begun, ends_over}
+use Rattle.twkb_table.proofs.TableSteps.{begun, ends_over}
 use Rattle.twkb_table.proofs.table_reader.TableReader.read_geometry.Goals as goal
 
 pub returns-then-not-branch : goal.returns-then-not-branch

@@ -3,8 +3,8 @@ use Rattle.std.proofs.lemmas.Bool.{false≢true}
 use Rattle.csv.specs.Records.{fields_of}
 use Rattle.twkb_table.specs.TableReading.{progress}
 use Rattle.twkb_table.specs.Waiting.{is_stopped, waiting_rows}
-use Rattle.twkb_table.proofs.RecordFacts.{row_place_begins}
-use Rattle.twkb_table.proofs.TableCalls.{fresh, no_header, other_header, the_header}
+use Rattle.twkb_table.proofs.RowReaderLemmas.{row_place_begins}
+use Rattle.twkb_table.proofs.TableSteps.{fresh, no_header, other_header, the_header}
 use Rattle.twkb_table.proofs.table_reader.TableReader.read_header.Goals as goal
 
 pub returns-in-Ok-false : goal.returns-in-Ok-false

@@ -1,5 +1,5 @@
 use Rattle.std.specs.Bool.{one_answer}
-use Rattle.twkb_tree.specs.Equal.{tree_eq, tree_eq_decides}
+use Rattle.twkb_tree.specs.TreeCode.{tree_eq, tree_eq_decides}
 use Rattle.twkb_tree.proofs.equality.GeometryPartialEq.eq.Goals as goal
 
 pub returns-clause-test : goal.returns-clause-test

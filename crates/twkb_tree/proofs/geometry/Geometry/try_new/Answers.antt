@@ -1,4 +1,4 @@
-use Rattle.twkb_tree.proofs.Shapes.{IsTree-tree_of, IsTreeInRange-tree_of}
+use Rattle.twkb_tree.proofs.TreeLemmas.{IsTree-tree_of, IsTreeInRange-tree_of}
 use Rattle.std.proofs.Common.{rules}
 use Rattle.twkb_tree.proofs.geometry.Geometry.try_new.Goals as goal
 

@@ -2,8 +2,8 @@ use Rattle.std.proofs.lemmas.Grind.{common_steps}
 use Rattle.std.proofs.Common.{subst, arith}
 use Rattle.std.proofs.lemmas.List.{take_more}
 use Rattle.twkb_tree.specs.Tree.{IsTree}
-use Rattle.twkb_tree.specs.InRange.{IsTreeInRange}
-use Rattle.twkb_tree.proofs.Shapes.{AreTrees-push, AreTreesInRange-push}
+use Rattle.twkb_tree.specs.Limits.{IsTreeInRange}
+use Rattle.twkb_tree.proofs.TreeLemmas.{AreTrees-push, AreTreesInRange-push}
 use Rattle.twkb_tree.proofs.geometry.Members.from_vec.Goals as goal
 
 pub loop-member-preserved : goal.loop-member-preserved

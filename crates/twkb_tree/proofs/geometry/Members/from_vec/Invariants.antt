@@ -1,6 +1,6 @@
 use Rattle.std.proofs.Common.{take}
 use Rattle.twkb_tree.specs.Tree.{AreTrees, trees}
-use Rattle.twkb_tree.specs.InRange.{AreTreesInRange}
+use Rattle.twkb_tree.specs.Limits.{AreTreesInRange}
 use Rattle.twkb_tree.proofs.geometry.Members.from_vec.Given as goal
 
 abbrev pub invariant-loop-member : goal.invariant-loop-member

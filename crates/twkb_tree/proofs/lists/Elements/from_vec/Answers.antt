@@ -1,7 +1,7 @@
 use Rattle.std.proofs.lemmas.Grind.{common_steps}
 use Rattle.std.proofs.Common.{rules, subst, arith}
 use Rattle.std.proofs.lemmas.List.{take_more}
-use Rattle.twkb_tree.proofs.Shapes.{all_push}
+use Rattle.twkb_tree.proofs.TreeLemmas.{all_push}
 use Rattle.twkb_tree.proofs.lists.Elements.from_vec.Goals as goal
 
 pub loop-item-preserved : goal.loop-item-preserved

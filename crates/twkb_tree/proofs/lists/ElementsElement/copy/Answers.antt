@@ -1,5 +1,5 @@
 use Rattle.std.proofs.Common.{◌∙◌, arith}
-use Rattle.twkb_tree.proofs.Copied.{copied_more, copied_all}
+use Rattle.twkb_tree.proofs.TreeLemmas.{copied_more, copied_all}
 use Rattle.twkb_tree.proofs.lists.ElementsElement.copy.Goals as goal
 
 pub loop-item-init : goal.loop-item-init

@@ -1,5 +1,5 @@
 use Rattle.std.proofs.Common.{refl, arith}
-use Rattle.twkb_tree.proofs.Pairs.{take_pair, lists_same, lists_apart, lists_of_two_lengths}
+use Rattle.twkb_tree.proofs.TreeLemmas.{take_pair, lists_same, lists_apart, lists_of_two_lengths}
 use Rattle.twkb_tree.proofs.lists.ElementsElement.same.Goals as goal
 
 pub loop-index-preserved : goal.loop-index-preserved

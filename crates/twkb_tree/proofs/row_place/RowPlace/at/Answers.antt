@@ -1,4 +1,4 @@
-use Rattle.twkb_tree.proofs.RowPlaceLemmas.{root_stands, below_stands}
+use Rattle.twkb_tree.proofs.OpenLaws.{root_stands, below_stands}
 use Rattle.twkb_tree.proofs.row_place.RowPlace.at.Goals as goal
 
 pub returns-then-depth-eq0 : goal.returns-then-depth-eq0

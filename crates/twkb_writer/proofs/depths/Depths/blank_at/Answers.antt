@@ -1,5 +1,5 @@
 use Rattle.std.proofs.Common.{arith}
-use Rattle.twkb_writer.proofs.MeasuringSteps.{blank_there}
+use Rattle.twkb_writer.proofs.MeasuringParts.{blank_there}
 use Rattle.twkb_writer.proofs.depths.Depths.blank_at.Goals as goal
 
 pub returns-else-self-depth : goal.returns-else-self-depth

@@ -1,4 +1,4 @@
-use Rattle.twkb_writer.proofs.MeasuringSteps.{blank_last}
+use Rattle.twkb_writer.proofs.MeasuringParts.{blank_last}
 use Rattle.twkb_writer.proofs.depths.Depths.clear.Goals as goal
 
 pub loop-self-preserved : goal.loop-self-preserved

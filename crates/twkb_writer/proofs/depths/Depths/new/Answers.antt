@@ -1,4 +1,4 @@
-use Rattle.twkb_writer.proofs.MeasuringSteps.{blank_totals}
+use Rattle.twkb_writer.proofs.MeasuringParts.{blank_totals}
 use Rattle.twkb_writer.proofs.depths.Depths.new.Goals as goal
 
 pub invariant_of-result : goal.invariant_of-result

@@ -1,6 +1,6 @@
 use Rattle.std.proofs.Common.{[], ◌∷◌, refl}
 use Rattle.twkb_flat.specs.Rows.{row_with}
-use Rattle.twkb_writer.proofs.MeasuringSteps.{totals_small, measurable_after}
+use Rattle.twkb_writer.proofs.MeasuringParts.{totals_small, measurable_after}
 use Rattle.twkb_writer.proofs.MeasuringPass.{row_added}
 use Rattle.twkb_writer.proofs.measured_tree.RowPass.add.Goals as goal
 
