@@ -3,28 +3,22 @@
 #![tactic(auto)]
 
 #[cfg(test)]
-mod blob;
+mod blocks;
 #[cfg(test)]
 mod fixtures;
 #[cfg(test)]
 mod geom;
 #[cfg(test)]
-mod grammar;
-#[cfg(test)]
-mod io;
-#[cfg(test)]
 mod memory;
 #[cfg(test)]
-mod num;
-#[cfg(test)]
-mod numbers_out;
-#[cfg(test)]
-mod pairs;
+mod numbers;
 #[cfg(test)]
 mod points;
 #[cfg(test)]
 mod polyline;
 #[cfg(test)]
-mod texts;
+mod readers;
+#[cfg(test)]
+mod streams;
 #[cfg(test)]
 mod writer;

@@ -1,10 +1,168 @@
-//! Want of memory. With each growth refused in turn (`make hostile`), an answer is the right one or
-//! want of memory, and that is final.
-use super::ways::{Way, fault_of, read_twice};
+//! Readers and sessions of blobs over devices that fail, and in want of memory, for each way to
+//! read. The vectors of blobs are those of the program `vector_runner`.
+ghost use Rattle.std.specs.Prelude.{◌<◌};
+
 use std::alloc::Global;
-use twkb_blob::{BlobFault, Session};
-use twkb_geom::Limits;
-use twkb_io::Tap;
+use std::io::Read;
+use twkb_blob::{BlobFault, Located, Reader, Session, Spans, StreamReader, StreamRoom};
+use twkb_geom::{Flat, Limits};
+use twkb_io::{Fuse, FuseEnd, InFault, Input, Tap};
+
+// ---- the ways to read a geometry and to feed a piece
+
+// A way to read: as a tree, as a tree with its spans, as rows, or as rows with their spans.
+#[derive(Clone, Copy)]
+enum Way {
+    Tree,
+    Located,
+    Rows,
+    Spans,
+}
+
+// The number of rows in a form that was read.
+fn rows_in(flat: &Flat, answer: Result<bool, BlobFault>) -> Result<u64, BlobFault> {
+    match answer {
+        Ok(_) => Ok(u64::from(flat.node_count())),
+        Err(fault) => Err(fault),
+    }
+}
+
+// Reads the next tree, and counts its rows.
+fn read_tree<R: Read>(alloc: Global, reader: &mut Reader<'_, R>) -> Result<u64, BlobFault> {
+    match reader.next(alloc) {
+        Ok(Some(geometry)) => {
+            let rows = geometry.nodes();
+            drop(geometry);
+            Ok(rows)
+        }
+        Ok(None) => Ok(0),
+        Err(fault) => Err(fault),
+    }
+}
+
+// Reads the next tree with its spans, and counts the spans.
+fn read_spans<R: Read>(alloc: Global, reader: &mut Reader<'_, R>) -> Result<u64, BlobFault> {
+    match reader.next_located(alloc) {
+        Ok(Some(located)) => {
+            let spans = located.spans.as_slice().len();
+            drop(located);
+            Ok(spans as u64)
+        }
+        Ok(None) => Ok(0),
+        Err(fault) => Err(fault),
+    }
+}
+
+// Reads rows, and counts them.
+fn read_rows<R: Read>(
+    alloc: Global,
+    reader: &mut Reader<'_, R>,
+    flat: &mut Flat,
+) -> Result<u64, BlobFault> {
+    let answer = reader.next_flat(alloc, flat);
+    rows_in(flat, answer)
+}
+
+// Reads the next rows with their spans, and counts the spans; 0 if there are no rows.
+fn read_spanned_rows<R: Read>(
+    blobs: &mut StreamReader<'_, '_, R>,
+    spans: &mut Spans,
+) -> Result<u64, BlobFault> {
+    match blobs.next_spans(spans) {
+        Ok(true) => Ok(spans.as_slice().len() as u64),
+        Ok(false) => Ok(0),
+        Err(fault) => Err(fault),
+    }
+}
+
+// The answers to two calls of a reader of a whole stream.
+fn read_spans_twice<R: Read>(alloc: Global, tap: &mut Tap<R>) -> [Result<u64, BlobFault>; 2] {
+    let mut room = StreamRoom::new(alloc);
+    let mut blobs = StreamReader::new(Input::new(tap), Limits::standard(), &mut room);
+    let mut spans = Spans::new(alloc);
+    let first = read_spanned_rows(&mut blobs, &mut spans);
+    let second = read_spanned_rows(&mut blobs, &mut spans);
+    drop(spans);
+    drop(blobs);
+    [first, second]
+}
+
+// Reads a geometry, and counts its rows, or the spans of a tree that comes with them; 0 if there is
+// none, or the fault.
+fn read<R: Read>(
+    alloc: Global,
+    way: Way,
+    reader: &mut Reader<'_, R>,
+    flat: &mut Flat,
+) -> Result<u64, BlobFault> {
+    match way {
+        Way::Tree => read_tree(alloc, reader),
+        Way::Located => read_spans(alloc, reader),
+        Way::Rows | Way::Spans => read_rows(alloc, reader, flat),
+    }
+}
+
+// The answers to two calls of a reader over a device; rows with their spans are read by a reader
+// of a whole stream.
+fn read_twice<R: Read>(alloc: Global, way: Way, tap: &mut Tap<R>) -> [Result<u64, BlobFault>; 2] {
+    if let Way::Spans = way {
+        return read_spans_twice(alloc, tap);
+    }
+    let mut reader = Reader::new(Input::new(tap), Limits::standard());
+    let mut flat = Flat::new(alloc);
+    let first = read(alloc, way, &mut reader, &mut flat);
+    let second = read(alloc, way, &mut reader, &mut flat);
+    drop(flat);
+    drop(reader);
+    [first, second]
+}
+
+// Why a session refuses a piece, if it does.
+fn fault_of(session: &mut Session, piece: &[u8]) -> Option<BlobFault> {
+    session.feed(piece).err()
+}
+
+// ---- readers over a device that fails
+
+// A line of two points.
+const TWO: &[u8] = b"\x02\x00\x02\x02\x02\x08\x08";
+
+// Whether a reader returns a failed read, and is then spent, for a line that is cut after `bytes`
+// bytes and read `length` bytes at a time.
+fn tells_failure(alloc: Global, way: Way, line: &[u8], length: usize, bytes: u64) -> bool
+    requires { 0 < length }
+{
+    let mut tap = Tap::new(Fuse::new(line, bytes, length, FuseEnd::Fail, false));
+    let [first, second] = read_twice(alloc, way, &mut tap);
+    (first == Err(BlobFault::Device(InFault::Read))) & (second == Err(BlobFault::Spent))
+}
+
+// Whether a failed read is returned wherever the line is cut.
+fn tells_each(alloc: Global, way: Way, line: &[u8], length: usize) -> bool
+    requires { 0 < length }
+{
+    let mut are_told = true;
+    for bytes in 0..line.len() as u64 {
+        are_told &= tells_failure(alloc, way, line, length, bytes);
+    }
+    are_told
+}
+
+// Whether a failed read is returned for a line that comes byte by byte, and for one of near
+// points in pieces of thirty bytes.
+fn tells_both(alloc: Global, way: Way) -> bool {
+    tells_each(alloc, way, TWO, 1) & tells_each(alloc, way, NEAR, 30)
+}
+
+#[test]
+fn each_read_that_fails_is_a_device_fault(rt: HostRuntime) {
+    let alloc = rt.alloc();
+    let are_told = tells_both(alloc, Way::Tree) & tells_both(alloc, Way::Located);
+    assert!(rt; are_told & tells_both(alloc, Way::Rows) & tells_both(alloc, Way::Spans));
+}
+
+// ---- want of memory. With each growth refused in turn (`make hostile`), an answer is the right
+// one or want of memory, and that is final.
 
 // A collection with ids: a multipolygon with an id, and a multilinestring of two lines. It has
 // seven rows and three spans.
@@ -19,9 +177,9 @@ const DEEP: &[u8] =
 const SIX: &[u8] =
     b"\x04\x04\x06\x02\x02\x02\x02\x02\x02\x02\x02\x02\x02\x02\x02\x02\x02\x02\x02\x02\x02";
 
-/// A line of twenty points, each near the one before it, so that they are taken two at a time if
-/// they come in one piece. One row, one span.
-pub const NEAR: &[u8] =
+// A line of twenty points, each near the one before it, so that they are taken two at a time if
+// they come in one piece. One row, one span.
+const NEAR: &[u8] =
     b"\x02\x00\x14\x02\x02\x02\x02\x02\x02\x02\x02\x02\x02\x02\x02\x02\x02\x02\x02\x02\x02\x02\
     \x02\x02\x02\x02\x02\x02\x02\x02\x02\x02\x02\x02\x02\x02\x02\x02\x02\x02\x02\x02\x02";
 
