@@ -1,11 +1,12 @@
-//! Streams read into arrays of rows and points, and written from them. The blobs are worked by hand
-//! from TWKB, the places of faults from docs/FORMATS.md.
-use twkb_arrays::BufferRow;
+//! Streams read into arrays of rows and points; and the rows, points and blobs that these tests
+//! share with those of writing. The blobs are worked by hand from TWKB, the places of faults from
+//! docs/FORMATS.md.
+use std::alloc::Global;
+use twkb_arrays::{BufferCounts, BufferRow, read_arrays};
 use twkb_buffer::BufferPoint;
+use twkb_geom::Limits;
 
-mod followed;
 mod lines;
-mod reading;
 mod writing;
 
 // A row: its depth, its kind, its number of points, its id and its precision.
@@ -43,3 +44,191 @@ const POINTS: [BufferPoint; 3] = [
     BufferPoint { x: 1, y: 1 },
     BufferPoint { x: 5, y: 5 },
 ];
+
+// ---- streams read into arrays
+
+// The most rows of a test.
+const MOST: usize = 6;
+
+// A row that no call writes.
+const UNWRITTEN: Given = (9, 9, 9, None, 9);
+
+// The rows at the start of an array.
+fn rows_of(given: &[Given]) -> [BufferRow; MOST] {
+    let mut rows = [row_of(&UNWRITTEN); MOST];
+    for (row, given) in rows.iter_mut().zip(given) {
+        *row = row_of(given);
+    }
+    rows
+}
+
+// A reading: the bytes, the room for rows and for points, and the counts.
+struct Reading {
+    name: &'static str,
+    blobs: &'static [u8],
+    row_room: usize,
+    point_room: usize,
+    // status, reason and place
+    ends: (u32, u32, u64),
+    // geometries, rows and points in the arrays
+    given: (u64, u64, u64),
+    // rows and points of all that was read
+    needed: (u64, u64),
+}
+
+const READINGS: [Reading; 9] = [
+    Reading {
+        name: "all room",
+        blobs: BLOBS,
+        row_room: 6,
+        point_room: 5,
+        ends: (0, 0, 0),
+        given: (2, 4, 3),
+        needed: (4, 3),
+    },
+    Reading {
+        name: "just enough room",
+        blobs: BLOBS,
+        row_room: 4,
+        point_room: 3,
+        ends: (0, 0, 0),
+        given: (2, 4, 3),
+        needed: (4, 3),
+    },
+    Reading {
+        name: "no bytes",
+        blobs: b"",
+        row_room: 0,
+        point_room: 0,
+        ends: (0, 0, 0),
+        given: (0, 0, 0),
+        needed: (0, 0),
+    },
+    Reading {
+        name: "too few rows",
+        blobs: BLOBS,
+        row_room: 3,
+        point_room: 5,
+        ends: (5, 0, 0),
+        given: (1, 3, 1),
+        needed: (4, 3),
+    },
+    Reading {
+        name: "too few points",
+        blobs: BLOBS,
+        row_room: 6,
+        point_room: 2,
+        ends: (5, 0, 0),
+        given: (1, 3, 1),
+        needed: (4, 3),
+    },
+    Reading {
+        name: "no room for the first, but for the second",
+        blobs: BLOBS,
+        row_room: 2,
+        point_room: 5,
+        ends: (5, 0, 0),
+        given: (0, 0, 0),
+        needed: (4, 3),
+    },
+    Reading {
+        name: "rooms of 0",
+        blobs: BLOBS,
+        row_room: 0,
+        point_room: 0,
+        ends: (5, 0, 0),
+        given: (0, 0, 0),
+        needed: (4, 3),
+    },
+    Reading {
+        name: "cut",
+        blobs: b"\x07\x04\x02\x0e\x01\x01\x00\x02\x02\x02\x10\x02\x00\x02\x02\x02\x08",
+        row_room: 6,
+        point_room: 5,
+        ends: (1, 41, 17),
+        given: (1, 3, 1),
+        needed: (3, 1),
+    },
+    Reading {
+        name: "cut, and no room",
+        blobs: b"\x07\x04\x02\x0e\x01\x01\x00\x02\x02\x02\x10\x02\x00\x02\x02\x02\x08",
+        row_room: 2,
+        point_room: 1,
+        ends: (5, 0, 0),
+        given: (0, 0, 0),
+        needed: (3, 1),
+    },
+];
+
+fn counts_of(reading: &Reading) -> BufferCounts {
+    BufferCounts {
+        status: reading.ends.0,
+        reason: reading.ends.1,
+        place: reading.ends.2,
+        done: reading.given.0,
+        rows: reading.given.1,
+        points: reading.given.2,
+        needed_rows: reading.needed.0,
+        needed_points: reading.needed.1,
+    }
+}
+
+// Whether the first rows are those of the worked blobs, and the others are as no call writes them.
+fn has_rows(rows: &[BufferRow], count: usize) -> bool {
+    let due = rows_of(&ROWS);
+    for (at, row) in rows.iter().enumerate() {
+        let right = match due.get(at) {
+            Some(given) if at < count => *given,
+            _ => row_of(&UNWRITTEN),
+        };
+        if *row != right {
+            return false;
+        }
+    }
+    true
+}
+
+const UNWRITTEN_POINT: BufferPoint = BufferPoint { x: 9, y: 9 };
+
+// Whether the first points are those of the worked blobs, and the others are as no call writes
+// them.
+fn has_points(points: &[BufferPoint], count: usize) -> bool {
+    for (at, point) in points.iter().enumerate() {
+        let right = match POINTS.get(at) {
+            Some(given) if at < count => *given,
+            _ => UNWRITTEN_POINT,
+        };
+        if *point != right {
+            return false;
+        }
+    }
+    true
+}
+
+// Whether a reading gives its counts, writes the rows and points that they count, and leaves the
+// places after them as they were.
+fn is_read(alloc: Global, reading: &Reading) -> bool {
+    let mut rows = [row_of(&UNWRITTEN); MOST];
+    let mut points = [UNWRITTEN_POINT; 5];
+    let row_room = reading.row_room.min(MOST);
+    let point_room = reading.point_room.min(5);
+    let counts = read_arrays(
+        alloc,
+        reading.blobs,
+        &mut rows[..row_room],
+        &mut points[..point_room],
+        Limits::standard(),
+    );
+    let has_counts = counts == counts_of(reading);
+    has_counts
+        & has_rows(&rows, reading.given.1 as usize)
+        & has_points(&points, reading.given.2 as usize)
+}
+
+#[test]
+fn a_stream_is_read_into_arrays(rt: HostRuntime) {
+    for reading in &READINGS {
+        let is_right = is_read(rt.alloc(), reading);
+        assert!(rt; is_right, "{}", reading.name);
+    }
+}

@@ -1,6 +1,6 @@
 //! Conversions from a buffer to a buffer. The blob is the one that PostGIS writes of the line
 //! from (1, 1) to (5, 5); the places of faults are those of docs/FORMATS.md.
-use crate::convert::worked::{WORKED, Worked};
+use crate::worked::{WORKED, Worked};
 use std::alloc::Global;
 use twkb_buffer::{
     BufferPoint, BufferReport, Conversion, fill, fill_points, fill_polyline, measure, put_reason,

@@ -11,10 +11,14 @@ mod callers;
 #[cfg(test)]
 mod command;
 #[cfg(test)]
-mod convert;
-#[cfg(test)]
 mod devices;
+#[cfg(test)]
+mod failing;
+#[cfg(test)]
+mod order;
+#[cfg(test)]
+mod printing;
 #[cfg(test)]
 mod table;
 #[cfg(test)]
-mod texts;
+mod worked;

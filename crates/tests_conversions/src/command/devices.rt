@@ -1,5 +1,5 @@
 //! Runs over devices that fail: the status, the output before the failure, and the line. That
-//! each failed call is reported is shown for the conversions (`convert`), which a run carries
+//! each failed call is reported is shown for the conversions (`failing`), which a run carries
 //! out.
 use super::{
     COLLECTION_BLOB, COLLECTION_LINES, COLLECTION_TABLE, Ended, POINT_BLOBS, POINT_TABLE, run_over,
