@@ -1,6 +1,11 @@
-//! The results of the conversions of blobs and tables, as lines of text.
-use super::text::{put_counts, put_hex, put_lines, put_stop};
+//! The results of conversions of blobs and tables, and of whole runs of the command, as lines of
+//! text.
+use super::text::{
+    bytes_of, cut_word, lines_of, put, put_counts, put_hex, put_lines, put_named, put_shown,
+    put_stop, table_of,
+};
 use std::alloc::Global;
+use twkb_command::{read_words, run};
 use twkb_convert::{Conversion, ConvertFault, Report, Style, convert};
 use twkb_geom::Limits;
 use twkb_io::Tap;
@@ -52,4 +57,61 @@ pub fn put_all(alloc: Global, limits: Limits, blob: &[u8], text: &mut Vec<u8>) {
     let table = put_conversion(alloc, Conversion::Unpack, limits, blob, text);
     put_conversion(alloc, Conversion::Pack(Style::Full), limits, &table, text);
     put_conversion(alloc, Conversion::Pack(Style::Plain), limits, &table, text);
+}
+
+// ---- whole runs of the command
+
+// The words of a line.
+fn words_of(alloc: Global, line: &str) -> Vec<String> {
+    let mut words = Vec::new(alloc);
+    for name in line.split(' ') {
+        if let Ok(word) = name.to_string(alloc) {
+            let _is_pushed = words.push(word).is_ok();
+        }
+    }
+    words
+}
+
+// Prints a word and the output after it: as digits if it begins with a control character,
+// otherwise as lines.
+fn put_output(alloc: Global, word: &[u8], output: &[u8], text: &mut Vec<u8>) {
+    put(text, word);
+    match output.first() {
+        Some(byte) if *byte < b' ' => put_hex(alloc, text, output),
+        _ => put_lines(text, output),
+    }
+}
+
+// The input that the words give: digits, rows, or a whole text.
+fn input_of(alloc: Global, given: &str) -> Vec<u8> {
+    let (word, rest) = cut_word(given);
+    match word {
+        "rows" => table_of(alloc, &lines_of(alloc, rest)),
+        "text" => lines_of(alloc, rest),
+        _ => bytes_of(alloc, rest),
+    }
+}
+
+/// Prints the result of a run with the words of a line, over the input that follows them after a `<`.
+pub fn put_run(alloc: Global, rest: &str, text: &mut Vec<u8>) {
+    let (line, given) = rest.split_once(" < ").unwrap_or((rest, ""));
+    put_run_over(alloc, line, &input_of(alloc, given), text);
+}
+
+// Prints the status of a run, and what it wrote to both writers.
+fn put_run_over(alloc: Global, line: &str, input: &[u8], text: &mut Vec<u8>) {
+    let mut reader = Tap::new(input);
+    let mut writer = Tap::new(Vec::new(alloc));
+    let mut errors = Tap::new(Vec::new(alloc));
+    let words = words_of(alloc, line);
+    let status = run(alloc, &words, &mut reader, &mut writer, &mut errors);
+    put_shown(alloc, text, b"\n  status ", &status);
+    put_output(alloc, b"\n  output", &writer.into_inner(), text);
+    put_output(alloc, b"\n  errors", &errors.into_inner(), text);
+}
+
+/// Prints the request that the words of a line make: a conversion, three limits and a style.
+pub fn put_request(alloc: Global, line: &str, text: &mut Vec<u8>) {
+    let request = read_words(alloc, &words_of(alloc, line)).ok();
+    put_named(alloc, text, b"\n  asks for ", &request);
 }
