@@ -3,7 +3,9 @@
 //! the program `vector_runner`.
 use std::alloc::Global;
 use std::io::{Read, Write};
-use twkb_blob::{BlobFault, BlobReason, EncodeFault, Reader, Span, Spans, StreamReader, StreamRoom};
+use twkb_blob::{
+    BlobFault, BlobReason, EncodeFault, Reader, Span, Spans, StreamReader, StreamRoom,
+};
 use twkb_geom::{Flat, Kind, Limits, NodeId, PointId, Work};
 use twkb_io::{Bytes, CountFull, Ending, Fuse, FuseEnd, InFault, Input, OutFault, Sink, Tap};
 use twkb_points::Pt;

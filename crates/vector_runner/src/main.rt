@@ -10,7 +10,9 @@ mod tables;
 mod text;
 mod values;
 
-use crate::calls::{put_blob_calls, put_input, put_output, put_session, put_sinks, put_table_calls};
+use crate::calls::{
+    put_blob_calls, put_input, put_output, put_session, put_sinks, put_table_calls,
+};
 use crate::conversions::{put_all, put_conversion, put_request, put_run};
 use crate::forms::{put_admitted, put_encoded, put_form, put_tree};
 use crate::streams::{put_located, put_read};
