@@ -196,8 +196,9 @@ polytwkb_report polytwkb_decode(const uint8_t *text, size_t length, polytwkb_poi
  * nearest one to a half counts as that half: 0.15, which is a little less than that as a double, is 2 at precision 1.
  * Status 2: there is no such precision, and nothing is written. 0: sent is count. 1: a number
  * is not finite, or its coordinate is outside -2^62 to 2^62 - 1; reason is POLYTWKB_POLYLINE_RANGE, place the first
- * such number, counted from 0, and sent as many: the coordinates before it are written. 5: the room is too small,
- * needed is count, and nothing is written. Places after those written stay as they were. Takes no memory.
+ * such number, counted from 0, and sent as many: the coordinates before it are written. 5, whatever the numbers are:
+ * room is less than count. needed is count, and nothing is written. Places after those written stay as they were. Takes
+ * no memory.
  */
 polytwkb_report polytwkb_round(const double *numbers, size_t count, int32_t precision, int64_t *units, size_t room);
 
