@@ -91,6 +91,7 @@ def check(given: Union[str, Buffer, Iterable[Optional[Buffer]]], limits: Optiona
     After a refused record of a table, its geometry is passed over to the next row whose depth is 0. Of a list, each item is looked at by
     itself: it is one blob, as for `geometries`, or None, which passes. `place` of a refusal is the record of the table or the byte of the
     item, `done` the number of the geometry or of the item, from 0, and `output` is None. A table without its header has that refusal alone.
+    Raises TypeError for what is neither a table nor a list, and for an item that is no buffer.
     """
     most = _limits(limits)
     if isinstance(given, (str, bytes, bytearray, memoryview)):

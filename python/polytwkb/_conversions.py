@@ -16,7 +16,8 @@ _Result = TypeVar("_Result")
 
 
 class Limits(NamedTuple):
-    """The most that one geometry may have, its members included."""
+    """The most that one geometry may have, its members included. A call that is given a number out of its range raises
+    ValueError, and TypeError for what is no `Limits` and for a number that is not whole."""
 
     nest: int = 16
     """Collections that a geometry may be in, 0 to 32."""
@@ -112,7 +113,8 @@ def _headers(output: memoryview) -> List[Header]:
 def pack(table: Union[str, Buffer], style: str = "full", limits: Optional[Limits] = None) -> bytes:
     """Packs a table to a stream of blobs: with sizes and boxes, or ``"plain"``, without either.
 
-    Raises Refused at the first record that is wrong; its `output` has the blobs of the geometries before.
+    Raises Refused at the first record that is wrong; its `output` has the blobs of the geometries before. Raises TypeError
+    if the table is no str and no buffer, ValueError for another style.
     """
     number, given = style_of(style), table_bytes(table)
     return _converted(library.polytwkb_pack, given, len(given) + 64, bytes, limits, number)
@@ -121,7 +123,8 @@ def pack(table: Union[str, Buffer], style: str = "full", limits: Optional[Limits
 def unpack(blobs: Buffer, limits: Optional[Limits] = None) -> str:
     """Unpacks a stream of blobs to a table.
 
-    Raises Refused at the first item that is wrong; its `output` has the table of the blobs before.
+    Raises Refused at the first item that is wrong; its `output` has the table of the blobs before. Raises TypeError for
+    what is no buffer.
     """
     given = _bytes(blobs, "a stream of blobs is bytes")
     return _converted(library.polytwkb_unpack, given, 2 * len(given) + 64, _text, limits)
@@ -130,16 +133,19 @@ def unpack(blobs: Buffer, limits: Optional[Limits] = None) -> str:
 def show(blobs: Buffer, limits: Optional[Limits] = None) -> List[Header]:
     """The headers in a stream, in their order. A header of level 0 is that of a blob, those of higher levels are inside it.
 
-    Raises Refused at the first item that is wrong; its `output` has the headers of the blobs before.
+    Raises Refused at the first item that is wrong; its `output` has the headers of the blobs before. Raises TypeError for
+    what is no buffer.
     """
     given = _bytes(blobs, "a stream of blobs is bytes")
     return _converted(library.polytwkb_show, given, 2 * len(given) + 64, _headers, limits)
 
 
 def split(blobs: Buffer, limits: Optional[Limits] = None) -> List[bytes]:
-    """The blobs of a stream, each as bytes of its own. Those of a `Packed` are found without reading them.
+    """The blobs of a stream, each as bytes of its own. Those of a `Packed` that have sizes are found by them, without
+    reading the stream.
 
-    Raises Refused at the first item that is wrong; its `output` has the blobs before.
+    Raises Refused at the first item that is wrong; its `output` has the blobs before. Raises TypeError for what is no
+    buffer.
     """
     if isinstance(blobs, Packed) and limits is None:
         return [blob for blob in blobs.blobs if blob is not None]

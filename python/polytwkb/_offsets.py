@@ -68,7 +68,9 @@ def offsets_of(blobs: bytes, limits: CLimits, count: Optional[int] = None) -> ar
 
 class Packed(bytes):
     """A stream of blobs, as bytes, with the places of the blobs in it: what `pack_geometries` and `pack_ragged` return, or
-    made of what `write` or `pack` returned, which is not read again: ``Packed(write(rows, points)).blobs``."""
+    made of what `write` or `pack` returned: ``Packed(write(rows, points)).blobs``. The places are found by the sizes in
+    the blobs, whose points are not read again. In the style ``"plain"`` blobs have no sizes, and the stream is read once
+    more, when the places are asked for."""
 
     _offsets: Optional[array[int]] = None
 

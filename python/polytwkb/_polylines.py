@@ -77,7 +77,8 @@ def _decoded(text: Union[str, Buffer], result: Callable[[array[int]], _Result]) 
 def decode_flat(text: Union[str, Buffer]) -> array[int]:
     """The points of an encoded polyline as an array of type ``"q"``: x, y, x, y, .. (longitude before latitude).
 
-    Raises Refused, with the byte of the text as its place, if the text is no polyline.
+    Raises Refused, with the byte of the text as its place, if the text is no polyline; TypeError for what is no str and no
+    buffer.
     """
     return _decoded(text, lambda flat: flat)
 
@@ -86,7 +87,8 @@ def decode(text: Union[str, Buffer], precision: Optional[int] = None) -> List[Tu
     """The points (x, y) of an encoded polyline: x is the longitude and y the latitude, though the text has the latitude first.
 
     Without a precision they are whole numbers; with one, from -8 to 7, floats in degrees: each the one nearest to its whole number times
-    10^-precision. Raises Refused, with the byte of the text as its place, if the text is no polyline.
+    10^-precision. Raises Refused, with the byte of the text as its place, if the text is no polyline; ValueError for a precision out of
+    range; TypeError for what is no str and no buffer.
     """
     if precision is None:
         return _decoded(text, lambda flat: list(zip(flat[::2], flat[1::2])))

@@ -80,6 +80,7 @@ def stream(source: Union[Readable, Iterable[Buffer]], limits: Optional[Limits] =
     is less than one blob and one piece.
 
     The source is a binary file, whose method ``read1`` or ``read`` is asked for 1 MB at a time, or pieces of bytes. Raises
-    Refused, with its place in the whole stream, after the blobs before it were given; also if the last blob is cut.
+    Refused, with its place in the whole stream, after the blobs before it were given; also if the last blob is cut. Raises
+    TypeError for a source that is neither, and for pieces that are no bytes.
     """
     return _streamed(_pieces_of(source), _Held(_limits(limits)))
