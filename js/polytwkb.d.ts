@@ -212,16 +212,25 @@ type Collecting = { errors: 'collect' };
  */
 export function geometries(blobs: Bytes, options?: Partial<Limits> & { degrees?: true } & Raising): Geometry[];
 export function geometries(blobs: Bytes, options: Partial<Limits> & { degrees: false } & Raising): UnitGeometry[];
+export function geometries(
+    blobs: Bytes, options: Partial<Limits> & { degrees: boolean } & Raising,
+): Geometry[] | UnitGeometry[];
 export function geometries(blobs: Column, options?: Partial<Limits> & { degrees?: true } & Raising): (Geometry | null)[];
 export function geometries(
     blobs: Column, options: Partial<Limits> & { degrees: false } & Raising,
 ): (UnitGeometry | null)[];
+export function geometries(
+    blobs: Column, options: Partial<Limits> & { degrees: boolean } & Raising,
+): (Geometry | null)[] | (UnitGeometry | null)[];
 export function geometries(
     blobs: Column, options: Partial<Limits> & { degrees?: true } & Collecting,
 ): { geometries: (Geometry | null)[]; refused: Refused<null>[] };
 export function geometries(
     blobs: Column, options: Partial<Limits> & { degrees: false } & Collecting,
 ): { geometries: (UnitGeometry | null)[]; refused: Refused<null>[] };
+export function geometries(
+    blobs: Column, options: Partial<Limits> & { degrees: boolean } & Collecting,
+): { geometries: (Geometry | null)[] | (UnitGeometry | null)[]; refused: Refused<null>[] };
 
 /** What is packed: a geometry as GeoJSON has it, a Feature, or null. */
 export type Packable =

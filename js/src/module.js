@@ -100,7 +100,7 @@ async function renewLater(old) {
     inside = false;
 }
 
-/** What a call of the module returns: where its report is, or a count. */
+/** What a call of the module returns: where its report, a text or a buffer is, or a count. */
 export function answered(conversion) {
     inside = true;
     const at = conversion() >>> 0;
@@ -109,7 +109,7 @@ export function answered(conversion) {
 }
 
 /** Where the module has room for so many bytes of ours; 0 if the engine gives none. What lies there stays. */
-export const tryRoom = size => (size <= REACHED ? wasm.buffers(size) >>> 0 : 0);
+export const tryRoom = size => (size <= REACHED ? answered(() => wasm.buffers(size)) : 0);
 
 /** The same, or OutOfMemory. */
 export function roomFor(size) {
@@ -127,7 +127,7 @@ function textAt(at) {
     return String.fromCharCode(...bytes.subarray(0, bytes.indexOf(0)));
 }
 
-export const reasonText = reason => textAt(wasm.reason_text(reason));
+export const reasonText = reason => textAt(answered(() => wasm.reason_text(reason)));
 
 /**
  * Reads the numbers of 32 and of 64 bits of a struct of include/polytwkb.h.

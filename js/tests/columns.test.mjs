@@ -3,7 +3,7 @@ import assert from 'node:assert/strict';
 import test from 'node:test';
 import { Worker } from 'node:worker_threads';
 import { bytes } from './rows.mjs';
-import { Refused, geometries, load, packGeometries, read, split } from '../polytwkb.js';
+import { Limits, Refused, geometries, load, packGeometries, read, split, stream, write } from '../polytwkb.js';
 
 await load();
 
@@ -53,11 +53,14 @@ test('an item that is not one blob is refused by its number', () => {
     assert.throws(() => geometries([POINT], { errors: 'ignore' }), RangeError);
 });
 
-test('unknown options are refused', () => {
+test('unknown options are refused', async () => {
     for (const options of [{ maxNest: 2 }, { exact: true }, { node: 5 }]) {
         for (const call of [geometries, read]) assert.throws(() => call(POINT, options), /there is no option/);
         assert.throws(() => split(POINT, options), /there is no option/);
         assert.throws(() => packGeometries([AT], 0, options), /there is no option/);
+        assert.throws(() => write(read(POINT), options), /there is no option/);
+        assert.throws(() => new Limits(options), /there is no option/);
+        await assert.rejects(stream([POINT], options).next(), /there is no option/);
     }
 });
 

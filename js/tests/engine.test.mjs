@@ -130,6 +130,50 @@ test('the stack of the engine ends in a call', LONG, () => {
     assert.ok(faults >= 200);
 });
 
+// As on a page of Chromium before 115, which makes no instance of a large module at once.
+test('an instance that is not made at once is made a moment later', LONG, () => {
+    const said = child(`
+        const { instantiate } = WebAssembly, made = [], sizes = () => made.map(it => it.exports.memory.buffer.byteLength);
+        WebAssembly.instantiate = async module => { made.push(await instantiate(module)); return made.at(-1); };
+        WebAssembly.Instance = function () { throw new RangeError('not at once'); };
+        const later = () => new Promise(resolve => setTimeout(resolve, 100));
+        await p.load();
+        const table = ${JSON.stringify(HEADER)} + '0,linestring,,5,_p~iF~ps|U_ulLnnqC_mqNvxq\`@\\n'.repeat(1000);
+        const blobs = p.pack(table), many = count => Buffer.concat(Array(count).fill(blobs));
+        const isRight = () => p.unpack(blobs) === table;
+        p.unpackBytes(many(1100));
+        console.log(sizes()[0] > 2 ** 27, isRight());
+        while (made.length < 2) await later();
+        await later();
+        const before = sizes();
+        p.unpackBytes(many(300));
+        const grown = sizes().filter((size, place) => size > before[place]);
+        console.log(grown.length, sizes()[0] === before[0], isRight());
+        let told = 0, wrong = 0;
+        const deep = (depth, round, ...more) => {
+            try {
+                if (depth % 7 === round % 7) p.unpack(blobs);
+                deep(depth + 1, round, ...more);
+            } catch (fault) {
+                if (!(fault instanceof RangeError)) throw fault;
+            }
+        };
+        for (let round = 0; round < 100; round++) {
+            deep(0, round, ...Array(round % 13).fill(0));
+            try {
+                wrong += !isRight();
+            } catch (fault) {
+                if (!/wait for load\\(\\) again/.test(fault.message)) throw fault;
+                told++;
+                await p.load();
+                wrong += !isRight();
+            }
+        }
+        console.log(told > 0, wrong);
+    `);
+    assert.equal(said, 'true true\n1 true true\ntrue 0\n');
+});
+
 test('100,000 calls leak nothing', LONG, () => {
     const said = child(`
         await p.load();

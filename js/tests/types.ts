@@ -30,6 +30,8 @@ async function all(response: Response, file: ArrayBuffer): Promise<void> {
     const packed: Float64Array = packGeometries(column, 5, { heights: 'drop' }).offsets;
     split(packGeometries(units).blobs).length + refused[0].place + packed.length + read(blobs, { degrees: flag }).xy.length;
     for (const unit of units) if (unit.type === 'GeometryCollection') unit.geometries[0].precision.toFixed();
+    const either: Geometry[] | UnitGeometry[] = geometries(blobs, { degrees: flag });
+    either.length + geometries([blobs], { degrees: flag }).length + geometries([blobs], { degrees: flag, errors: 'collect' }).geometries.length;
     try {
         pack(again);
     } catch (fault) {

@@ -40,17 +40,18 @@ def nearest(number: Any, precision: int) -> int:
     """The whole number nearest to this many units of 10^-precision, of two the one farther from 0, by fractions."""
     number = _near(number)
     try:
-        above, below = number.as_integer_ratio()
+        ratio = above, below = number.as_integer_ratio()
         is_float = not isinstance(number, (Rational, Decimal))
     except (AttributeError, TypeError):
-        above, below, is_float = operator.index(number), 1, False
+        ratio = above, below = operator.index(number), 1
+        is_float = False
     except (OverflowError, ValueError):
         raise ValueError(f"a coordinate is a finite number, not {number}") from None
     factor, divisor = 10 ** max(precision, 0), 10 ** max(-precision, 0)
     size, below = abs(above) * factor, below * divisor
     units: int = (2 * size + below) // (2 * below)
-    # the quotient of two ints is the float nearest to it
-    if is_float and size < 10**14 * below and (2 * units + 1) * divisor / (2 * factor) == abs(number):
+    # The quotient of two ints is the float nearest to it. It is compared by its ratio, as a float of numpy may have fewer bits.
+    if is_float and size < 10**14 * below and ((2 * units + 1) * divisor / (2 * factor)).as_integer_ratio() == (abs(ratio[0]), ratio[1]):
         units += 1
     return units if above >= 0 else -units
 

@@ -226,6 +226,8 @@ class Rounding(unittest.TestCase):
             self.assertEqual((polytwkb.encode(empty, 5), polytwkb.in_units(empty, 5).shape), ("", (0, 2)))
         self.assertEqual(polytwkb.in_degrees(rows[:0, :2].astype(numpy.int64), 5).shape, (0, 2))
         self.assertEqual(polytwkb.encode(list(map(tuple, rows[:, 1:3])), 0), polytwkb.encode([(1, 2), (5, 6), (9, 10)]))
+        singles = array("f", [0.35, 0.15])
+        self.assertEqual(polytwkb.in_units([tuple(map(numpy.float32, singles))], 1), polytwkb.in_units(singles, 1))
 
 
 if __name__ == "__main__":

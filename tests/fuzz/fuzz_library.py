@@ -26,10 +26,12 @@ from columns import Columns
 from fuzz import some_stream, some_table
 from fuzzing import MOST_FOUND, in_processes, report, words_of
 from geometry import NODES, POINTS, mapping_of, with_precision
-from rounding import some_double, unit_of
+from rounding import some_double, some_half, unit_of
 from trees import nested, some_tree
 
 GUARD = 0xA7
+# In 20,000 cases so many a time are 100,000.
+HALVES = 75
 
 
 def numbers_of(*kinds):
@@ -254,6 +256,17 @@ class Comparing(Columns):
         if status < 2:
             others = [nearest(number, precision) for number in numbers[: len(units)]], polylines.units_of(numbers[: len(units)], precision)
             assert others == (units, units), f"round {numbers} at {precision}: the package and the recipes have {others}, not {units}"
+        if is_precision:
+            self.halves(chance, precision)
+
+    def halves(self, chance, precision):
+        """Doubles at and beside halves are rounded as fractions round them, by the library, by the package one by one, and by the recipes."""
+        numbers = [some_half(chance, precision) for _ in range(HALVES)]
+        units = [unit_of(number, precision) for number in numbers]
+        found = self.library.round(numbers, precision, HALVES)[1], [nearest(number, precision) for number in numbers], polylines.units_of(numbers, precision)
+        for by, others in zip(("the library", "the package", "the recipes"), found):
+            wrong = [place for place, pair in enumerate(zip(units, others)) if pair[0] != pair[1]]
+            assert not wrong, f"round {numbers[wrong[0]]!r} at {precision}: {by} has {others[wrong[0]]}, not {units[wrong[0]]}"
 
     def shapes(self, chance, limits):
         """Mappings of the geo interface are packed as the second implementation packs them."""

@@ -31,8 +31,19 @@ def beside(number, step):
     return of_bits(bits + step)
 
 
+def half_of(chance, precision):
+    """The double nearest to some whole number of units and a half."""
+    return float(Fraction(2 * chance.getrandbits(chance.randint(1, 54)) + 1, 2) / Fraction(10) ** precision)
+
+
+def some_half(chance, precision):
+    """A double at or beside a half, of either sign."""
+    number = beside(half_of(chance, precision), chance.choice((-2, -1, 0, 0, 0, 1, 2)))
+    return -number if chance.random() < 0.5 else number
+
+
 def some_double(chance, precision):
-    half = float(Fraction(2 * chance.getrandbits(chance.randint(1, 54)) + 1, 2) / Fraction(10) ** precision)
+    half = half_of(chance, precision)
     number = chance.choice(
         (
             lambda: chance.uniform(-180, 180),
