@@ -126,12 +126,12 @@ class Buffers(unittest.TestCase):
         with mock.patch.object(sys, "_is_gil_enabled", lambda: False, create=True):
             self.assertEqual(_memory.borrowed(points.view), points.tobytes())
             self.assertEqual((polytwkb.write(rows, points), polytwkb.encode(points[:2])), (BLOBS, "???G"))
-        for form in (bytearray, lambda records: polytwkb.Rows(bytearray(records)), numpy and (lambda records: numpy.array(numpy.frombuffer(records, rows.dtype)))):
-            if form:
-                given = form(rows.records)
-                own = _writing._own_rows(given)
-                memoryview(getattr(given, "records", given)).cast("B")[:] = bytes(rows.records.nbytes)
-                self.assertEqual((own, polytwkb.write(own, points)), (rows, BLOBS))
+        memory = bytearray(rows.records)
+        for given in [memory, polytwkb.Rows(memory), *([numpy.frombuffer(memory, rows.dtype)] if numpy else [])]:
+            memory[:] = rows.records
+            own = _writing._own_rows(given)
+            memory[:] = bytes(len(memory))
+            self.assertEqual((own, polytwkb.write(own, points)), (rows, BLOBS))
 
     def test_buffers_that_are_not_aligned(self):
         rows, points = polytwkb.read(BLOBS, degrees=False)
