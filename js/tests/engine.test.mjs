@@ -138,15 +138,15 @@ test('an instance that is not made at once is made a moment later', LONG, () => 
         WebAssembly.Instance = function () { throw new RangeError('not at once'); };
         const later = () => new Promise(resolve => setTimeout(resolve, 100));
         await p.load();
-        const table = ${JSON.stringify(HEADER)} + '0,linestring,,5,_p~iF~ps|U_ulLnnqC_mqNvxq\`@\\n'.repeat(1000);
+        const table = ${JSON.stringify(HEADER)} + '0,linestring,,5,_p~iF~ps|U_ulLnnqC_mqNvxq\`@\\n'.repeat(50);
         const blobs = p.pack(table), many = count => Buffer.concat(Array(count).fill(blobs));
         const isRight = () => p.unpack(blobs) === table;
-        p.unpackBytes(many(1100));
+        p.unpackBytes(many(22000));
         console.log(sizes()[0] > 2 ** 27, isRight());
         while (made.length < 2) await later();
         await later();
         const before = sizes();
-        p.unpackBytes(many(300));
+        p.unpackBytes(many(6000));
         const grown = sizes().filter((size, place) => size > before[place]);
         console.log(grown.length, sizes()[0] === before[0], isRight());
         let told = 0, wrong = 0;
