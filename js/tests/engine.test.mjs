@@ -143,7 +143,7 @@ test('an instance that is not made at once is made a moment later', LONG, () => 
         const isRight = () => p.unpack(blobs) === table;
         p.unpackBytes(many(22000));
         console.log(sizes()[0] > 2 ** 27, isRight());
-        while (made.length < 2) await later();
+        for (let tries = 0; tries < 100 && made.length < 2; tries++) await later();
         await later();
         const before = sizes();
         p.unpackBytes(many(6000));
