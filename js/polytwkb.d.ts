@@ -54,7 +54,7 @@ export class Refused<Output = unknown> extends Error {
     readonly place: number;
     /** The byte of the refused polyline, in its record or alone; of arrays the row's first point out of range, from 0; else 0. */
     readonly textOffset: number;
-    /** How many geometries came before, and are whole. */
+    /** How many geometries came before, and are whole; of a list, null counts too. */
     readonly done: number;
     /** What the call would have returned of these alone. */
     readonly output: Output;
@@ -102,8 +102,22 @@ export interface Header {
 /** The headers in a stream, in their order. */
 export function show(blobs: Bytes, limits?: Partial<Limits>): Header[];
 
-/** The blobs of a stream, each as bytes of its own. */
+/** A stream of blobs, and where they are in it: what `packGeometries` returns, and `write` with `offsets: true`. */
+export interface Packed {
+    blobs: Uint8Array;
+    /**
+     * Where the blob of each geometry begins, in bytes, and last where the stream ends: one more than there are
+     * geometries. No bytes are those of a geometry that is null.
+     */
+    offsets: Float64Array;
+}
+
+/**
+ * The blobs of a stream, each as bytes of its own: a column for a database. If the offsets are given with the stream,
+ * nothing is read, and null stays null; offsets that do not end with the stream are a RangeError.
+ */
 export function split(blobs: Bytes, limits?: Partial<Limits>): Uint8Array[];
+export function split(packed: Packed): (Uint8Array | null)[];
 
 /** A stream of blobs whose bytes come in pieces. */
 export type Pieces = Response | ReadableStream<Bytes> | AsyncIterable<Bytes> | Iterable<Bytes>;
@@ -138,13 +152,34 @@ export interface Arrays<Coordinates extends Float64Array | BigInt64Array = Float
     xy: Coordinates;
 }
 
+/** Arrays that were read, and where the blobs are that they were read from. */
+export interface PlacedArrays<Coordinates extends Float64Array | BigInt64Array = Float64Array | BigInt64Array>
+    extends Arrays<Coordinates> {
+    /**
+     * Where the blob of each geometry begins in the stream, in bytes, and last where the last one ends: one more than
+     * there are rows of depth 0.
+     */
+    blobOffsets: Float64Array;
+}
+
+type Unplaced = { blobOffsets?: false };
+type Placing = { blobOffsets: true };
+
 /**
  * Reads a stream of blobs into arrays: in degrees, each coordinate the number nearest to its units times 10^-precision,
- * by the precision of the geometry that it is in; with `degrees: false` in whole units.
+ * by the precision of the geometry that it is in; with `degrees: false` in whole units. With `blobOffsets: true` the
+ * arrays have `blobOffsets` too. They are found by the sizes in the blobs; if a blob has no size, as in the style
+ * `'plain'`, the stream is read once more.
  */
-export function read(blobs: Bytes, options?: Partial<Limits> & { degrees?: true }): Arrays<Float64Array>;
-export function read(blobs: Bytes, options: Partial<Limits> & { degrees: false }): Arrays<BigInt64Array>;
-export function read(blobs: Bytes, options: Partial<Limits> & { degrees: boolean }): Arrays;
+export function read(blobs: Bytes, options?: Partial<Limits> & { degrees?: true } & Unplaced): Arrays<Float64Array>;
+export function read(blobs: Bytes, options: Partial<Limits> & { degrees: false } & Unplaced): Arrays<BigInt64Array>;
+export function read(blobs: Bytes, options: Partial<Limits> & { degrees: boolean } & Unplaced): Arrays;
+export function read(blobs: Bytes, options: Partial<Limits> & { degrees?: true } & Placing): PlacedArrays<Float64Array>;
+export function read(blobs: Bytes, options: Partial<Limits> & { degrees: false } & Placing): PlacedArrays<BigInt64Array>;
+export function read(blobs: Bytes, options: Partial<Limits> & { degrees: boolean } & Placing): PlacedArrays;
+export function read(
+    blobs: Bytes, options: Partial<Limits> & { degrees?: boolean; blobOffsets?: boolean },
+): Arrays & Partial<PlacedArrays>;
 
 /** Arrays that are written. Without `hasIds` and `ids` no row has an id. */
 export type Writable = Omit<Arrays, 'hasIds' | 'ids'> & Partial<Pick<Arrays, 'hasIds' | 'ids'>>;
@@ -154,9 +189,17 @@ export type Writable = Omit<Arrays, 'hasIds' | 'ids'> & Partial<Pick<Arrays, 'ha
  * Degrees are rounded as `encode` rounds them, each by the precision of the geometry that it is in. Refused, at its row
  * from 0, if a row is against the rules of a table, and if points are missing or left over; `output` has the blobs of
  * the complete geometries before. Arrays of other types are a TypeError; of other lengths, and degrees that are not
- * finite, a RangeError.
+ * finite, a RangeError. With `offsets: true` the stream is returned with the offset of each blob, found as by `read`.
  */
-export function write(arrays: Writable, options?: Partial<Limits> & { style?: 'full' | 'plain' }): Uint8Array;
+export function write(
+    arrays: Writable, options?: Partial<Limits> & { style?: 'full' | 'plain'; offsets?: false },
+): Uint8Array;
+export function write(
+    arrays: Writable, options: Partial<Limits> & { style?: 'full' | 'plain'; offsets: true },
+): Packed;
+export function write(
+    arrays: Writable, options: Partial<Limits> & { style?: 'full' | 'plain'; offsets: boolean },
+): Uint8Array | Packed;
 
 /** x and y: the longitude and the latitude, though the text of a polyline has the latitude first. */
 export type Point = [x: number, y: number];
@@ -242,10 +285,10 @@ export type Packable =
  * list, a FeatureCollection, or one geometry. Degrees are rounded as `encode` rounds them; coordinates that are BigInt
  * are whole units. Without a precision each geometry has its own, as those in whole units have. `ids` of a geometry are
  * those of its members; `ids: false` leaves them out. A height is a TypeError, and `heights: 'drop'` leaves it out.
- * `offsets` say where the blob of each geometry begins, and last where the stream ends; null, and a Feature without a
- * geometry, has no blob. Refused, at its geometry from 0, if one is against the rules of a table.
+ * null, and a Feature without a geometry, has no blob. `split` of the result is a column for a database. Refused if one
+ * is against the rules of a table, with its place in the list from 0.
  */
 export function packGeometries(
     geometries: Iterable<Packable> | Exclude<Packable, null>, precision?: number,
     options?: Partial<Limits> & { style?: 'full' | 'plain'; ids?: boolean; heights?: 'raise' | 'drop' },
-): { blobs: Uint8Array; offsets: Float64Array };
+): Packed;

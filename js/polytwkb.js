@@ -4,10 +4,11 @@
  * polytwkb.d.ts says what each does.
  */
 export { read } from './src/arrays.js';
-export { pack, show, split, unpack, unpackBytes } from './src/conversions.js';
+export { pack, show, unpack, unpackBytes } from './src/conversions.js';
 export { geometries } from './src/geometries.js';
 export { Limits } from './src/inputs.js';
 export { load, version } from './src/module.js';
+export { split } from './src/offsets.js';
 export { packGeometries } from './src/packing.js';
 export { decode, decodeFlat, encode } from './src/polylines.js';
 export { OutOfMemory, Refused } from './src/refused.js';

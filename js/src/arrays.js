@@ -1,6 +1,7 @@
 /** The geometries of a stream as typed arrays, a row for each row of its table. */
-import { bytesOf, degreesOf, limitsAmong, limitsOf } from './inputs.js';
-import { POINT, answered, called, countsAt, memory, padded, reasonText, roomFor, tryRoom } from './module.js';
+import { bytesOf, degreesOf, flagOf, limitsAmong, limitsOf } from './inputs.js';
+import { POINT, answered, bytesAt, called, countsAt, memory, padded, reasonText, roomFor, tryRoom } from './module.js';
+import { offsetsOf } from './offsets.js';
 import { Status } from './reasons.js';
 import { OutOfMemory, Refused, whereOf } from './refused.js';
 import { numberAt, scaleOf } from './rounding.js';
@@ -11,9 +12,11 @@ export const POINT_WORDS = 4;
 export const NO_PRECISION = -128;
 const LARGE = 2 ** 24;
 
-/** Rows and points in the module's memory. */
+/** A stream, and its geometries as rows and points, in the module's memory. */
 class Found {
-    constructor(rowsAt, rows, pointsAt, points) {
+    constructor(blobs, { done, rows, points }, rowsAt, pointsAt) {
+        this.blobs = blobs;
+        this.geometries = done;
         this.row = rowsAt / 4;
         this.rows = rows;
         this.point = pointsAt / 4;
@@ -60,7 +63,7 @@ function readInto(wasm, input, most) {
         const given = [base, input.length, base + rows, rooms.rows, base + points, rooms.points, ...most];
         const counts = countsAt(answered(() => wasm.read(...given)));
         if (counts.status === Status.DONE || counts.status === Status.REFUSED) {
-            return { counts, found: new Found(base + rows, counts.rows, base + points, counts.points) };
+            return { counts, found: new Found(bytesAt(base, input.length), counts, base + rows, base + points) };
         }
         const more = counts.neededRows > rooms.rows || counts.neededPoints > rooms.points;
         if (counts.status !== Status.TOO_SMALL || !more) throw new OutOfMemory('polytwkb: out of memory');
@@ -79,6 +82,9 @@ export function found(blobs, limits, result) {
         return output;
     });
 }
+
+/** Where the blob of each geometry is. Without sizes the stream is read again, and rows and points are lost. */
+export const offsetsOfFound = (rows, limits) => offsetsOf(rows.blobs, limits, rows.geometries);
 
 /** The coordinates of all points in degrees, in the places of their units in the module's memory. */
 function inDegrees(wasm, rows) {
@@ -113,6 +119,10 @@ function arraysOf(wasm, rows, degrees) {
 }
 
 export function read(blobs, options = {}) {
-    const limits = limitsAmong(options, 'degrees'), degrees = degreesOf(options);
-    return found(blobs, limits, (rows, wasm) => arraysOf(wasm, rows, degrees));
+    const limits = limitsAmong(options, 'degrees', 'blobOffsets'), degrees = degreesOf(options);
+    const hasOffsets = flagOf(options, 'blobOffsets', false);
+    return found(blobs, limits, (rows, wasm) => {
+        const arrays = arraysOf(wasm, rows, degrees);
+        return hasOffsets ? { ...arrays, blobOffsets: offsetsOfFound(rows, limits) } : arrays;
+    });
 }

@@ -1,11 +1,10 @@
 /** Lists of blobs, as a column of a database has them: each item is the bytes of one blob, or null. */
-import { headersOf, shown } from './conversions.js';
+import { found as read, offsetsOfFound } from './arrays.js';
 import { isBuffer, viewOf } from './inputs.js';
 import { reasonText } from './module.js';
+import { roots } from './offsets.js';
 import { Reason } from './reasons.js';
 import { Refused } from './refused.js';
-
-const ROOT = 0; // the level of a header that is in no collection
 
 export const isList = given => !isBuffer(given) && typeof given === 'object' && typeof given?.[Symbol.iterator] === 'function';
 
@@ -20,37 +19,28 @@ function viewsOf(items) {
 }
 
 function joined(views) {
-    const length = views.reduce((sum, view) => sum + (view ? view.length : 0), 0), bytes = new Uint8Array(length);
+    const length = views.reduce((sum, view) => sum + view.length, 0), bytes = new Uint8Array(length);
     let at = 0;
     for (const view of views) {
-        if (!view) continue;
         bytes.set(view, at);
         at += view.length;
     }
     return bytes;
 }
 
-const rootsOf = lines => headersOf(lines).filter(({ level }) => level === ROOT);
-
-/** The headers of the blobs of a stream, and why it is refused after them, if it is. */
-export function roots(bytes, limits) {
+/** What `made` makes of the rows of items if each item is one blob; else null. */
+function wholeOf(views, limits, made) {
+    const blobs = views.filter(view => view !== null);
+    let whole;
     try {
-        return { found: shown(bytes, limits, rootsOf), fault: null };
+        // rows first: without sizes the offsets take their place in memory
+        whole = read(joined(blobs), limits, rows => [made(rows), offsetsOfFound(rows, limits)]);
     } catch (fault) {
         if (!(fault instanceof Refused)) throw fault;
-        return { found: fault.output, fault };
+        return null;
     }
-}
-
-/** Whether each item is one blob. */
-function areBlobs(views, bytes, limits) {
-    const { found, fault } = roots(bytes, limits), blobs = views.filter(view => view !== null);
-    let at = 0;
-    return !fault && found.length === blobs.length && blobs.every((view, place) => {
-        const begins = found[place].offset === at;
-        at += view.length;
-        return begins;
-    });
+    const [geometries, offsets] = whole, isBlob = ({ length }, at) => offsets[at] + length === offsets[at + 1];
+    return offsets.length === blobs.length + 1 && blobs.every(isBlob) ? geometries : null;
 }
 
 /** Why an item is not one blob, if it is not: the reason, and the byte. */
@@ -60,11 +50,10 @@ function faultOf(view, limits) {
     return fault ?? (first ? null : { reason: Reason.BLOB_TRUNCATED, place: 0 });
 }
 
-/** What `read` makes of the items, in their places; what it makes of null is null. */
-export function column(items, limits, read, collects) {
-    const views = viewsOf(items), bytes = joined(views), found = [], refused = [];
-    if (areBlobs(views, bytes, limits)) {
-        const whole = read(bytes);
+/** What `made` makes of the rows of the items, in their places; what it makes of null is null. */
+export function column(items, limits, made, collects) {
+    const views = viewsOf(items), whole = wholeOf(views, limits, made), found = [], refused = [];
+    if (whole) {
         let place = 0;
         for (const view of views) found.push(view ? whole[place++] : null);
         return collects ? { geometries: found, refused } : found;
@@ -77,7 +66,7 @@ export function column(items, limits, read, collects) {
             if (!collects) throw refusal;
             refused.push(refusal);
         }
-        found.push(view && !fault ? read(view)[0] : null);
+        found.push(view && !fault ? read(view, limits, made)[0] : null);
     }
     return { geometries: found, refused };
 }

@@ -115,8 +115,3 @@ export function headersOf(lines) {
 }
 
 export const show = (blobs, limits) => shown(blobs, limits, headersOf);
-
-export function split(blobs, limits) {
-    return shown(blobs, limits, (lines, base) => headersOf(lines).filter(({ level }) => level === 0)
-        .map(({ offset, length }) => bytesAt(base + offset, length).slice()));
-}

@@ -65,8 +65,8 @@ function geometriesOf(rows, degrees) {
 
 export function geometries(blobs, options = {}) {
     const limits = limitsAmong(options, 'degrees', 'errors'), degrees = degreesOf(options), collects = collectsOf(options);
-    const read = bytes => found(bytes, limits, rows => geometriesOf(rows, degrees));
-    if (isList(blobs)) return column(blobs, limits, read, collects);
+    const made = rows => geometriesOf(rows, degrees);
+    if (isList(blobs)) return column(blobs, limits, made, collects);
     if (collects) throw new TypeError('errors are collected of a list of blobs, and not of a stream');
-    return read(blobs);
+    return found(blobs, limits, made);
 }

@@ -21,11 +21,15 @@ export function checkOptions(given, ...names) {
     if (unknown !== undefined) throw new TypeError(`there is no option ${unknown}: ${[...names, ...LIMITS].join(', ')}`);
 }
 
-/** Whether degrees are asked for, and not whole units. */
-export function degreesOf({ degrees = true }) {
-    if (typeof degrees !== 'boolean') throw new TypeError(`degrees is true or false, not ${kindOf(degrees)}`);
-    return degrees;
+/** An option that is true or false. */
+export function flagOf(options, name, standard) {
+    const { [name]: given = standard } = options;
+    if (typeof given !== 'boolean') throw new TypeError(`${name} is true or false, not ${kindOf(given)}`);
+    return given;
 }
+
+/** Whether degrees are asked for, and not whole units. */
+export const degreesOf = options => flagOf(options, 'degrees', true);
 
 /** The most that one geometry may have, its members included. */
 export class Limits {

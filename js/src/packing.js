@@ -1,6 +1,5 @@
 /** Geometries in the form of GeoJSON as a stream of blobs. */
 import { NO_PRECISION } from './arrays.js';
-import { roots } from './column.js';
 import { checkOptions, limitsAmong, precisionOf } from './inputs.js';
 import { kindOf } from './kinds.js';
 import { Refused } from './refused.js';
@@ -128,33 +127,37 @@ function listed(given) {
     throw new TypeError(`geometries are a list, not ${kindOf(given)}`);
 }
 
-const isGap = given => (given?.type === 'Feature' ? given.geometry : given) ?? null;
+/** Whether there is no geometry: null, or a feature without one. */
+const isGap = given => ((given?.type === 'Feature' ? given.geometry : given) ?? null) === null;
 
 function placed(fault, at) {
     const Type = fault instanceof TypeError ? TypeError : RangeError;
     return new Type(`geometry ${at}: ${fault.message}`);
 }
 
+/** Adds the geometries of a list, and answers at which of its places there are any. */
 function addAll(rows, given) {
+    const places = [];
     for (const [at, geometry] of given.entries()) {
         try {
-            if (isGap(geometry) !== null) rows.add(geometryOf(geometry), 0, null);
+            if (isGap(geometry)) continue;
+            rows.add(geometryOf(geometry), 0, null);
+            places.push(at);
         } catch (fault) {
             throw placed(fault, at);
         }
     }
+    return places;
 }
 
-/** Where the blob of each geometry begins, and where the last ends; a gap has none. */
-function offsetsOf(blobs, given, limits) {
-    const { found } = roots(blobs, limits), offsets = new Float64Array(given.length + 1);
-    let at = 0, blob = 0;
-    for (const [place, geometry] of given.entries()) {
-        offsets[place] = at;
-        if (isGap(geometry) !== null) at += found[blob++].length;
+/** A stream with the offsets of so many places of a list: a place without a geometry has no bytes. */
+function packed({ blobs, offsets }, places, count) {
+    const found = new Float64Array(count + 1);
+    for (let place = 0, blob = 0; place < count; place++) {
+        if (places[blob] === place) blob++;
+        found[place + 1] = offsets[blob];
     }
-    offsets[given.length] = at;
-    return offsets;
+    return { blobs, offsets: found };
 }
 
 export function packGeometries(geometries, precision, options = {}) {
@@ -163,13 +166,12 @@ export function packGeometries(geometries, precision, options = {}) {
     if (heights !== 'raise' && heights !== 'drop') throw new RangeError(`heights is 'raise' or 'drop', not ${heights}`);
     const limits = limitsAmong(options, 'style', 'ids', 'heights'), given = listed(geometries);
     const rows = new Rows(precision === undefined ? null : precisionOf(precision), { ids, heights });
-    addAll(rows, given);
+    const places = addAll(rows, given);
     try {
-        const blobs = write(rows.arrays, { ...limits, style });
-        return { blobs, offsets: offsetsOf(blobs, given, limits) };
+        return packed(write(rows.arrays, { ...limits, style, offsets: true }), places, given.length);
     } catch (fault) {
         if (!(fault instanceof Refused)) throw fault;
-        const { reason, text, done, output } = fault;
-        throw new Refused(reason, text, `geometry ${done}`, { place: done, done }, output);
+        const { reason, text, done, output } = fault, place = places[done];
+        throw new Refused(reason, text, `geometry ${place}`, { place, done: place }, packed(output, places, place));
     }
 }

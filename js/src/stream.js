@@ -2,13 +2,13 @@
 import { shown } from './conversions.js';
 import { Limits, viewOf } from './inputs.js';
 import { kindOf } from './kinds.js';
+import { endOf } from './offsets.js';
 import { Reason } from './reasons.js';
 import { Refused, whereOf } from './refused.js';
 
 // Fewer bytes of a blob are looked at each time that some come; more, when they are twice as many.
 const OFTEN = 2 ** 16;
 const [LINE_FEED, SPACE, ZERO] = [...'\n 0'].map(character => character.charCodeAt(0));
-const [SIZE, EXTENDED] = [2, 8]; // bits of the metadata byte
 const HEADER = 13; // the most bytes of type, metadata, extended byte and size
 
 async function* read(stream) {
@@ -45,18 +45,6 @@ function told(lines) {
     if (last < 0) return { blobs, end: 0 };
     const line = String.fromCharCode(...lines.subarray(last, lines.indexOf(LINE_FEED, last))).split(' ');
     return { blobs, end: Number(line[1]) + Number(line[5]) };
-}
-
-/** How long a blob is by its size, if it has one and its first bytes are there; else 0. */
-function lengthOf(bytes) {
-    if (bytes.length < 2 || !(bytes[1] & SIZE)) return 0;
-    let at = bytes[1] & EXTENDED ? 3 : 2;
-    for (let size = 0, unit = 1; at < bytes.length; unit *= 128) {
-        const byte = bytes[at++];
-        size += (byte & 127) * unit;
-        if (byte < 128) return at + size;
-    }
-    return 0;
 }
 
 /** The bytes that have come and are no whole blob yet. */
@@ -110,7 +98,7 @@ class Held {
         this.offset += end;
         this.done += blobs;
         const more = this.length < OFTEN ? this.length + 1 : 2 * this.length;
-        const whole = lengthOf(this.bytes.subarray(0, Math.min(this.length, HEADER)));
+        const whole = endOf(this.bytes.subarray(0, Math.min(this.length, HEADER)), 0);
         this.due = whole > this.length ? Math.min(whole, Math.max(more, OFTEN)) : more;
     }
 }

@@ -1,8 +1,9 @@
 /** Geometries in typed arrays as a stream. */
 import { ROW, ROW_WORDS } from './arrays.js';
-import { checkObject, limitsAmong, limitsOf, styleOf } from './inputs.js';
+import { checkObject, flagOf, limitsAmong, limitsOf, styleOf } from './inputs.js';
 import { kindOf } from './kinds.js';
 import { POINT, answered, bytesAt, called, filled, memory, reasonText } from './module.js';
+import { offsetsOf } from './offsets.js';
 import { Reason, Status } from './reasons.js';
 import { Refused } from './refused.js';
 
@@ -90,18 +91,21 @@ function whereOf({ reason, place, textOffset }) {
     return reason === Reason.POLYLINE_RANGE ? `row ${place}: point ${textOffset}` : `row ${place}`;
 }
 
+/** What the module writes, and its report. */
+function written(wasm, given, most, form) {
+    const input = inputOf(wasm, given), rows = given.kinds.length, points = given.xy.length / 2;
+    const call = (at, to, room) => wasm.write(at + input.points, rows, at, points, to, room, ...most, form);
+    const { report, start } = filled(input, roomOf(points, rows), 1, call);
+    return { report, blobs: bytesAt(start, report.sent).slice() };
+}
+
 export function write(arrays, options = {}) {
-    const most = limitsOf(limitsAmong(options, 'style')), { style = 'full' } = options, form = styleOf(style);
-    const given = checked(arrays);
-    const rows = given.kinds.length, points = given.xy.length / 2;
-    return called(wasm => {
-        const input = inputOf(wasm, given);
-        const call = (at, to, room) => wasm.write(at + input.points, rows, at, points, to, room, ...most, form);
-        const { report, start } = filled(input, roomOf(points, rows), 1, call);
-        const output = bytesAt(start, report.sent).slice();
-        if (report.status === Status.REFUSED) {
-            throw new Refused(report.reason, reasonText(report.reason), whereOf(report), report, output);
-        }
-        return output;
-    });
+    const limits = limitsAmong(options, 'style', 'offsets'), { style = 'full' } = options, form = styleOf(style);
+    const hasOffsets = flagOf(options, 'offsets', false), given = checked(arrays);
+    const { report, blobs } = called(wasm => written(wasm, given, limitsOf(limits), form));
+    const output = hasOffsets ? { blobs, offsets: offsetsOf(blobs, limits, report.done) } : blobs;
+    if (report.status === Status.REFUSED) {
+        throw new Refused(report.reason, reasonText(report.reason), whereOf(report), report, output);
+    }
+    return output;
 }

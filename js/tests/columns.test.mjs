@@ -103,7 +103,7 @@ test('what cannot be packed is refused by its number', () => {
     const high = { type: 'LineString', coordinates: [[1, 2, 3], [4, 5, 6]] };
     assert.deepEqual(geometries(packGeometries([high], 0, { heights: 'drop' }).blobs)[0].coordinates, [[1, 2], [4, 5]]);
     assert.throws(() => packGeometries([AT, { ...BOTH, ids: [1, null] }], 0), {
-        code: 'MIXED_IDS', message: 'geometry 1: id on some children only', place: 1, output: POINT,
+        code: 'MIXED_IDS', message: 'geometry 1: id on some children only', place: 1, output: { blobs: POINT, offsets: Float64Array.of(0, 5) },
     });
     assert.throws(() => packGeometries([AT], 8), RangeError);
     assert.throws(() => packGeometries([AT]), /^TypeError: geometry 0: a precision is a whole number/);

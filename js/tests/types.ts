@@ -1,7 +1,7 @@
 // What callers in TypeScript write; the declarations take it, and refuse what is marked.
 import {
-    Arrays, Geometry, Header, Limits, OutOfMemory, Point, Refused, UnitGeometry, decode, decodeFlat, encode, geometries,
-    load, pack, packGeometries, read, show, split, stream, unpack, unpackBytes, version, write,
+    Arrays, Geometry, Header, Limits, OutOfMemory, Packed, PlacedArrays, Point, Refused, UnitGeometry, decode, decodeFlat,
+    encode, geometries, load, pack, packGeometries, read, show, split, stream, unpack, unpackBytes, version, write,
 } from '../polytwkb.js';
 
 async function all(response: Response, file: ArrayBuffer): Promise<void> {
@@ -28,6 +28,13 @@ async function all(response: Response, file: ArrayBuffer): Promise<void> {
     const column: (Geometry | null)[] = geometries([blobs, null]), units: UnitGeometry[] = geometries(blobs, { degrees: false });
     const { geometries: some, refused } = geometries([blobs], { errors: 'collect' }), flag: boolean = some.length > 1;
     const packed: Float64Array = packGeometries(column, 5, { heights: 'drop' }).offsets;
+    const cells: (Uint8Array | null)[] = split(packGeometries(column, 5)), places: Packed = write(whole, { offsets: true });
+    const placed: PlacedArrays<Float64Array> = read(blobs, { blobOffsets: true }), ends: Float64Array = placed.blobOffsets;
+    const exactly: BigInt64Array = read(blobs, { degrees: false, blobOffsets: true, nest: 2 }).xy, bytesAgain: Uint8Array = write(placed);
+    const perhaps: Float64Array | undefined = read(blobs, { blobOffsets: flag }).blobOffsets;
+    const one: Uint8Array | Packed = write(whole, { style: 'plain', offsets: flag });
+    split({ blobs, offsets: ends }).length + cells.length + places.offsets[0] + exactly.length + bytesAgain.length;
+    unpack('offsets' in one ? one.blobs : one) + String(perhaps);
     split(packGeometries(units).blobs).length + refused[0].place + packed.length + read(blobs, { degrees: flag }).xy.length;
     for (const unit of units) if (unit.type === 'GeometryCollection') unit.geometries[0].precision.toFixed();
     const either: Geometry[] | UnitGeometry[] = geometries(blobs, { degrees: flag });
@@ -46,6 +53,12 @@ async function all(response: Response, file: ArrayBuffer): Promise<void> {
     write({ ...whole, kinds: [1] });
     // @ts-expect-error no such option
     read(blobs, { exact: true });
+    // @ts-expect-error the offsets of blobs are there if they were asked for
+    read(blobs).blobOffsets.length;
+    // @ts-expect-error a stream with its offsets is no bytes
+    unpack(write(whole, { offsets: true }));
+    // @ts-expect-error nothing is read, so no limit is checked
+    split(packGeometries(column, 5), { nest: 2 });
     // @ts-expect-error no caller makes a refusal
     new Refused('x');
     // @ts-expect-error a BigInt64Array has whole numbers
