@@ -23,7 +23,7 @@ _PIECE = 1 << 13
 
 
 class _DeepEnough(Exception):
-    """A row is in so many collections that no limit takes it."""
+    """A member of a collection is in so many collections that no limit takes it."""
 
 
 def _interface_of(given: Any) -> Any:
@@ -117,7 +117,7 @@ class _Gathered:
         numbers = _pairs(points, self.drop)
         self.numbers += numbers
         self.rows.append((kind, depth, len(numbers) // 2, precision, identifier))
-        if depth > _MOST_NEST:
+        if depth > _MOST_NEST and precision != NO_PRECISION:
             raise _DeepEnough
 
     def members(self, mapping: Mapping[str, Any], name: str) -> Iterable[Tuple[Any, Optional[int]]]:

@@ -125,6 +125,23 @@ class Mappings(unittest.TestCase):
             self.assertEqual((str(refused), refused.place, refused.done), (f"geometry 2: {text}", 2, 2))
             self.assertEqual(refused.output, table_of("0,point,,0,CA/0,point,,0,CA/"))
 
+    def test_parts_are_as_deep_as_collections_allow(self):
+        """In 32 collections, the most that a limit takes, a geometry has all parts, and the one after it is packed."""
+        limits = polytwkb.Limits(nest=32)
+        for rows in [
+            "{0},multipoint,,0,/{1},point,,,AC/{1},point,,,GE/", "{0},polygon,,0,/{1},ring,,,AAGG/{1},ring,,,AC/",
+            "{0},multipolygon,,0,/{1},polygon,,,/{2},ring,,,AC/{2},ring,,,GE/{1},polygon,,,/{2},ring,,,AC/",
+        ]:
+            (mapping,) = polytwkb.geometries(table_of(rows.format(0, 1, 2)))
+            for _ in range(32):
+                mapping = {"type": "GeometryCollection", "geometries": [mapping]}
+            outer = "".join(f"{depth},collection,,0,/" for depth in range(32))
+            wanted = polytwkb.pack(vectors.table_of(outer + rows.format(32, 33, 34) + "0,point,,0,CA/"), limits=limits)
+            deep = {"type": "GeometryCollection", "geometries": [mapping]}
+            self.assertEqual(polytwkb.pack_geometries([mapping, RIGHT], 0, limits=limits), wanted)
+            with self.assertRaisesRegex(polytwkb.Refused, "^geometry 0: nested too deep"):
+                polytwkb.pack_geometries([deep, RIGHT], 0, limits=limits)
+
     def test_wrong_types(self):
         for given, raised in WRONG:
             with self.subTest(given=given), self.assertRaisesRegex(raised, "^geometry 1: "):
@@ -175,15 +192,17 @@ class Shapely(unittest.TestCase):
     def test_shapes_go_as_mappings_do(self):
         """By way of WKB and by way of mappings, with gaps."""
         shapes = [None, *[wkt.loads(text) for text, _ in WKT], None]
-        for chosen in (shapes, shapes[1:3], shapes[3:4], [shapes[3], None, shapes[3]], [shapes[1]] * 3, [shapes[2], shapes[1]]):
+        gap, two = [shapes[3], None, shapes[3]], [shapes[2], shapes[1]]
+        for chosen in (shapes, shapes[1:3], shapes[3:4], gap, [shapes[1]] * 3, two, shapes * 30):
             packed = polytwkb.pack_geometries(chosen, 5)
             mappings = [shape and _interface_of(shape) for shape in chosen]
             self.assertEqual(packed.blobs, polytwkb.pack_geometries(mappings, 5).blobs)
             found = polytwkb.shapes(packed.blobs)
             self.assertEqual([made and made.wkt for made in found], [made and made.wkt for made in chosen])
         deep = wkt.loads("GEOMETRYCOLLECTION (" * 34 + "POINT (1 2)" + ")" * 34)
-        with self.assertRaisesRegex(polytwkb.Refused, "^geometry 1: nested too deep"):
-            polytwkb.pack_geometries([shapes[1], deep, shapes[1]], 5)
+        for count in (1, 100):
+            with self.assertRaisesRegex(polytwkb.Refused, f"^geometry {count}: nested too deep"):
+                polytwkb.pack_geometries([shapes[1]] * count + [deep, shapes[1]], 5)
         with self.assertRaisesRegex(ValueError, "^geometry 2: a coordinate is a finite number, not nan"):
             polytwkb.pack_geometries([shapes[1], None, LineString([(0, 1), (float("nan"), 2)])], 5)
         with self.assertRaisesRegex(polytwkb.Refused, "^geometry 1: coordinate out of range"):
