@@ -15,7 +15,8 @@ if has_numpy python3 || ! has_numpy /usr/bin/python3; then
 else
   python=/usr/bin/python3
   ROUNDINGS=${ROUNDINGS:-100000} python3 -B -m unittest -q
-  "$python" -B -W ignore -m unittest -q test_rounding test_arrays test_degrees test_writing test_neighbours test_geometries test_packing test_ragged test_hostile
+  "$python" -B -W ignore -m unittest -q test_rounding test_arrays test_degrees test_writing test_neighbours \
+    test_geometries test_packing test_ragged test_walk test_hostile
 fi
 for module in numpy pandas shapely geopandas dask; do
   "$python" -W ignore -c "import $module" 2> /dev/null || echo "skip  the package with $module: python3-$module is not there"
