@@ -231,4 +231,5 @@ def pack_ragged(column: Any, precision: int, style: str = "full", limits: Option
     if missing and levels[0][missing].any():
         raise ValueError("a geometry that is missing has points")
     levels[0] = _numpy().delete(levels[0], missing)
-    return write_floats(Rows(_rows_of(kind, levels, decimals)), coordinates, decimals, missing, style, limits)
+    own = _numpy().array(coordinates, float, order="C")
+    return write_floats(Rows(_rows_of(kind, levels, decimals)), own, decimals, missing, style, limits)

@@ -3,16 +3,18 @@ from __future__ import annotations
 
 import importlib
 import sys
+from itertools import compress
+from operator import itemgetter
 from typing import Any, List, Literal, Optional, Tuple, overload
 
 from ._conversions import Limits
 from ._lists import Blobs, Listed, checked_errors, in_places, read_blobs
 from ._offsets import Packed
 from ._wkb import rows_of_wkb, wkb_of
-from ._write_geometries import write_floats
+from ._write_geometries import item_of, write_floats
 
-# The last byte of the type in little-endian WKB has these bits if points have a third number.
-_TYPE_END, _THIRD = 4, 0xC0
+# The last byte of the type in little-endian WKB, which is 0 if points have two numbers.
+_type_end = itemgetter(4)
 
 
 def _module(name: str) -> Any:
@@ -95,12 +97,12 @@ def pack_shapes(
 ) -> Packed:
     """The stream of such a list."""
     missing = [place for place, item in enumerate(items) if item is None]
-    places = [place for place, item in enumerate(items) if item is not None]
-    given = [items[place] for place in places] if missing else items
+    given = [item for item in items if item is not None] if missing else items
     wkbs = _to_wkb(given, 2 if drop else 3)
-    for geometry in [geometry for geometry, wkb in enumerate(wkbs) if wkb[_TYPE_END] & _THIRD]:
+    for geometry in list(compress(range(len(wkbs)), map(_type_end, wkbs))):
         if not given[geometry].is_empty:
-            raise TypeError(f"geometry {places[geometry]}: points are pairs of numbers: x and y, and no height")
+            place = item_of(geometry, missing)
+            raise TypeError(f"geometry {place}: points are pairs of numbers: x and y, and no height")
         wkbs[geometry] = _to_wkb([given[geometry]], 2)[0]
     rows, coordinates = rows_of_wkb(wkbs, precision)
     return write_floats(rows, coordinates, precision, missing, style, limits)

@@ -1,7 +1,6 @@
 """Rows of geometries of a list, some of which are None, as streams of blobs."""
 from __future__ import annotations
 
-from array import array
 from itertools import accumulate
 from typing import Any, List, Optional
 
@@ -39,11 +38,13 @@ def write_units(rows: Rows, units: Any, missing: List[int], style: str, limits: 
 
 
 def write_floats(rows: Rows, degrees: Any, precision: int, missing: List[int], style: str, limits: Optional[Limits]) -> Packed:
-    """The stream of rows and degrees, an array of numpy, all of one precision."""
-    given = array("d", degrees.tobytes() if degrees.dtype == float else degrees.astype(float).tobytes())
-    units = array("q", bytes(8 * len(given)))
+    """The stream of rows and degrees, all of one precision. The degrees are a contiguous array of numpy, of float64,
+    which can be written and which nothing else has."""
+    import numpy
+
+    units: Any = numpy.empty(degrees.size, numpy.int64)
     try:
-        round_floats(memoryview(given), precision, memoryview(units))
+        round_floats(memoryview(degrees.reshape(-1)), precision, memoryview(units))
     except NotFinite as fault:
         raise ValueError(f"geometry {item_of(_geometry_of(rows, fault.place // 2), missing)}: {fault}") from None
     return write_units(rows, units, missing, style, limits)
