@@ -11,7 +11,7 @@ use twkb_buffer::BufferPoint;
 const FAR_LINES: &[u8] =
     b"\x02\x10\xe2\x00\x01\x02\x02\xf2\x00\x02\xff\xff\xff\xff\xff\xff\xff\xff\x7f\x00\x00\x02";
 
-const LINES: [Writing; 8] = [
+static LINES: [Writing; 8] = [
     Writing {
         name: "a line with an id that no collection has",
         rows: &[(0, 2, 2, None, 0), (0, 2, 1, Some(7), 0)],
@@ -153,7 +153,7 @@ const COLLECTION_AND_LINE: &[u8] = b"\x07\x00\x01\x02\x00\x02\x02\x02\x00\x00\x0
 // The point (1, 1).
 const POINT: &[u8] = b"\x01\x00\x02\x02";
 
-const FOLLOWED: [Writing; 10] = [
+static FOLLOWED: [Writing; 10] = [
     Writing {
         name: "a line before a point",
         rows: &[(0, 2, 2, None, 0), (0, 1, 1, None, 0)],

@@ -42,7 +42,8 @@ pub(crate) const LINE_OF_A_POINT: &[u8] = b"\x02\x00\x01\x02\x02";
 const FULL_LINES: &[u8] =
     b"\x02\x03\x09\x02\x08\x02\x08\x02\x02\x02\x08\x08\x02\x03\x09\x02\x08\x02\x08\x02\x02\x02\x08\x08";
 
-const WRITINGS: [Writing; 12] = [
+// A `static`, as a `const` would be a part of each function that names it, and be proved there with all its rows.
+static WRITINGS: [Writing; 12] = [
     Writing {
         name: "all room",
         rows: &ROWS,
