@@ -21,21 +21,19 @@ const POINTS_MISSING: u32 = 71;
 // refuse the row, and leaves the form as it was.
 #[inline(always)]
 pub(crate) fn push_judged(
-    limits: &Limits,
+    limits: Limits,
     form: &mut Flat,
     row: &BufferRow,
     ahead: &[BufferPoint],
 ) -> Result<usize, Stop<u32>>
-    requires valid { AreValidRowsOfOne limits.now form.old }
+    requires valid { AreValidRowsOfOne limits form.old }
     requires next { row.now.depth ≡ 0 → form.old ≡ [] }
     ensures count { IfOk result (λ count. (count ≤ length ahead.now) × (count ≡ row.now.points)) }
     ensures pushed { IfOk result (λ count. (r : TableRow) × (form.new ≡ form.old ++ r ∷ [])
-        × AcceptedAfter limits.now form.old row.now ahead.now r × AreValidRowsOfOne limits.now form.new) }
-    ensures refused { IfErr result (IfRefused (RefusedAfter limits.now form.old row.now ahead.now)) }
+        × AcceptedAfter limits form.old row.now ahead.now r × AreValidRowsOfOne limits form.new) }
+    ensures refused { IfErr result (IfRefused (RefusedAfter limits form.old row.now ahead.now)) }
     ensures same { OnErr result (form.new ≡ form.old) }
 {
-    // lets proofs know that the limits are allowed
-    let _learnt = limits.nest();
     let Some(kind) = kind_of(row.kind) else {
         return Err(refused(RowReason::BadKind));
     };
@@ -51,7 +49,7 @@ pub(crate) fn push_judged(
     let Some(row_place) = form.place(row.depth) else {
         return Err(refused(RowReason::BadPlace));
     };
-    if let Some(reason) = refused_row(limits, &row_place, &bare, own) {
+    if let Some(reason) = refused_row(&limits, &row_place, &bare, own) {
         return Err(refused(reason));
     }
     match form.push_from(bare, &OwnPoints { own }) {

@@ -24,11 +24,9 @@ const LINESTRING: u16 = 2;
 // are ahead and than the limits allow. So it begins a geometry, if its kind may have so many
 // points, and all are in range.
 #[inline(always)]
-fn begins_alone(limits: &Limits, row: &BufferRow, ahead: &[BufferPoint]) -> bool
-    ensures { result ≡ true → BeginsAlone limits.now row.now ahead.now }
+fn begins_alone(limits: Limits, row: &BufferRow, ahead: &[BufferPoint]) -> bool
+    ensures { result ≡ true → BeginsAlone limits row.now ahead.now }
 {
-    // lets proofs know that the limits are allowed
-    let _learnt = limits.nest();
     if row.depth != 0 || row.has_id != 0 || row.id != 0 {
         return false;
     }
@@ -41,8 +39,8 @@ fn begins_alone(limits: &Limits, row: &BufferRow, ahead: &[BufferPoint]) -> bool
 // The first of the points ahead, if the row begins the geometry of this one point, within the
 // limits. `None` proves nothing.
 #[inline(always)]
-fn lone_point(limits: &Limits, row: &BufferRow, ahead: &[BufferPoint]) -> Option<Pt>
-    ensures { IfSome result (λ point. BeginsPoint limits.now row.now ahead.now point) }
+fn lone_point(limits: Limits, row: &BufferRow, ahead: &[BufferPoint]) -> Option<Pt>
+    ensures { IfSome result (λ point. BeginsPoint limits row.now ahead.now point) }
 {
     if row.kind != POINT || row.points != 1 || !begins_alone(limits, row, ahead) {
         return None;
@@ -53,8 +51,8 @@ fn lone_point(limits: &Limits, row: &BufferRow, ahead: &[BufferPoint]) -> Option
 // Whether a row begins the geometry of a linestring within the limits, unless one of its points is
 // out of range. `false` proves nothing.
 #[inline(always)]
-fn begins_line(limits: &Limits, row: &BufferRow, ahead: &[BufferPoint]) -> bool
-    ensures { result ≡ true → BeginsLine limits.now row.now ahead.now }
+fn begins_line(limits: Limits, row: &BufferRow, ahead: &[BufferPoint]) -> bool
+    ensures { result ≡ true → BeginsLine limits row.now ahead.now }
 {
     row.kind == LINESTRING && begins_alone(limits, row, ahead)
 }
@@ -64,18 +62,16 @@ fn begins_line(limits: &Limits, row: &BufferRow, ahead: &[BufferPoint]) -> bool
 // after it nothing is known of the blob in `room`.
 #[inline(always)]
 fn make_line(
-    limits: &Limits,
+    limits: Limits,
     style: Style,
     row: &BufferRow,
     ahead: &[BufferPoint],
     room: &mut BlobRoom,
 ) -> Result<Option<usize>, AllocError>
-    requires { BeginsLine limits.now row.now ahead.now }
+    requires { BeginsLine limits row.now ahead.now }
     ensures { IfOk result (λ made. IfSome made (λ count.
-        IsMadeAlone limits.now style row.now ahead.now count (blob_in room.new))) }
+        IsMadeAlone limits style row.now ahead.now count (blob_in room.new))) }
 {
-    // lets proofs know that the limits are allowed
-    let _learnt = limits.nest();
     let count = row.points as usize;
     let own = &ahead[..count];
     if !are_in_range(own) {
@@ -90,14 +86,14 @@ fn make_line(
 // want of memory. After a `None` or an `Err` nothing is known of the blob in `room`.
 #[inline(always)]
 fn make_row(
-    limits: &Limits,
+    limits: Limits,
     style: Style,
     row: &BufferRow,
     ahead: &[BufferPoint],
     room: &mut BlobRoom,
 ) -> Result<Option<usize>, AllocError>
     ensures { IfOk result (λ made. IfSome made (λ count.
-        IsMadeAlone limits.now style row.now ahead.now count (blob_in room.new))) }
+        IsMadeAlone limits style row.now ahead.now count (blob_in room.new))) }
 {
     if begins_line(limits, row, ahead) {
         return make_line(limits, style, row, ahead, room);
@@ -123,14 +119,14 @@ fn is_before_root(rows: &[BufferRow]) -> bool
 // blob in `room`.
 #[inline(always)]
 pub(crate) fn make_first(
-    limits: &Limits,
+    limits: Limits,
     style: Style,
     rows: &[BufferRow],
     ahead: &[BufferPoint],
     room: &mut BlobRoom,
 ) -> Result<Option<usize>, AllocError>
     ensures { IfOk result (λ made. IfSome made (λ count.
-        IsMadeFirst limits.now style rows.now ahead.now count (blob_in room.new))) }
+        IsMadeFirst limits style rows.now ahead.now count (blob_in room.new))) }
 {
     if !is_before_root(rows) {
         return Ok(None);

@@ -137,12 +137,12 @@ impl Writer {
         let Ok(()) = self.end_before(style, &rows[0], output) else {
             return Err(Stop::Memory);
         };
-        match make_first(limits, style, rows, ahead, &mut self.room) {
+        match make_first(*limits, style, rows, ahead, &mut self.room) {
             Ok(Some(count)) => {
                 send_blob(self.room.blob(), output, &mut self.sent);
                 Ok(count)
             }
-            Ok(None) => push_judged(limits, &mut self.open_geometry, &rows[0], ahead),
+            Ok(None) => push_judged(*limits, &mut self.open_geometry, &rows[0], ahead),
             Err(_) => Err(Stop::Memory),
         }
     }

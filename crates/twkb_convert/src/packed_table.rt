@@ -1,5 +1,5 @@
 //! Packing a table into a stream.
-ghost use Rattle.std.specs.Prelude.{◌≡◌, ◌<◌, ◌^◌, true, is_err, IfOk, IfErr};
+ghost use Rattle.std.specs.Prelude.{◌≡◌, true, is_err, IfOk, IfErr};
 ghost use Rattle.twkb_io.specs.Taps.{bytes_given, device_of};
 ghost use Rattle.twkb_grammar.specs.declared.style.Style.TheVariants.{Full};
 ghost use Rattle.twkb_convert.specs.Outputs.{IsFlushedButForDevices};
@@ -13,6 +13,7 @@ use crate::sent_geometries::{Room, Sent, send_table};
 use std::alloc::Global;
 use std::io::{Read, Write};
 use twkb_flat::Work;
+use twkb_flat::laws::reads_fit;
 use twkb_io::{Output, Tap};
 use twkb_table::TableReader;
 use twkb_tree::Limits;
@@ -91,7 +92,8 @@ pub fn pack_counted<R: Read, W: Write>(
     let drained = drain(reader, sending);
     let answer = after_reads(drained, reader.failures() != failures);
     let report = finish(&mut output, sent.geometries, answer)?;
-    Ok(packed(report, sent.work))
+    reads_fit(sent.work);
+    Ok((report, sent.work))
 }
 
 // The number of bytes that one read asks for.
@@ -114,13 +116,4 @@ fn drain<R: Read>(tap: &mut Tap<R>, sending: Result<(), Cause>) -> Result<(), Ca
         }
     }
     Err(Cause::TooLong)
-}
-
-// Returns the report and the work. It is a function of its own for its contract, which states that
-// the numbers of reads fit 64 bits.
-fn packed(report: Report, work: Work) -> (Report, Work)
-    ensures is { result ≡ (report, work) }
-    ensures fits { (work.point_reads < 2 ^ 64) × (work.node_reads < 2 ^ 64) }
-{
-    (report, work)
 }

@@ -143,8 +143,6 @@ impl Flat {
         ensures begun { OnOk result (self.new ≡ whole_row 0 Kind.Point None precision (point ∷ []) ∷ []) }
         ensures none { OnErr result (self.new ≡ []) }
     {
-        // lets proofs know that the point is in range
-        let _learnt = point.x();
         self.clear();
         let root = Row {
             depth: 0,

@@ -10,7 +10,7 @@ use crate::flat::Flat;
 use crate::kept_nodes::{KeptNode, PlacedRow, count_points, ends_in_line, link, put_point};
 use crate::node::Row;
 use crate::room::{make_room, put_reserved};
-use crate::row_test::{MOST_POINTS, leaves_room, look, look_at_id};
+use crate::row_test::{MOST_POINTS, leaves_room, look};
 use std::alloc::AllocError;
 use twkb_points::Pt;
 use twkb_tree::Kind;
@@ -47,8 +47,6 @@ impl Flat {
         ensures added { OnOk result (self.new ≡ point_added point self.old) }
         ensures same { OnErr result (self.new ≡ self.old) }
     {
-        // lets proofs know that the point is in range
-        let _learnt = point.x();
         if let Err(refused) = self.points.push(point) {
             return Err(refused.into());
         }
@@ -66,9 +64,6 @@ impl Flat {
         ensures added { OnOk result (self.new ≡ point_added second (point_added first self.old)) }
         ensures same { OnErr result (self.new ≡ self.old) }
     {
-        // lets proofs know that the points are in range
-        let _learnt = first.x();
-        let _learnt = second.x();
         make_room(&mut self.points, 2)?;
         self.points.push_reserved(first);
         self.points.push_reserved(second);
@@ -118,9 +113,6 @@ impl Flat {
         ensures added { OnOk result (self.new ≡ self.old ++ plain_row depth Kind.Point id (point ∷ []) ∷ []) }
         ensures same { OnErr result (self.new ≡ self.old) }
     {
-        look_at_id(id);
-        // lets proofs know that the point is in range
-        let _learnt = point.x();
         let next = self.kept.len() as u32;
         let last = next - 1;
         let row = Row {

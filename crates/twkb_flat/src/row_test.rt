@@ -1,7 +1,6 @@
 //! Tests of the rows that may come next: their depth, their ranges and the caps.
 ghost use Rattle.std.specs.Prelude.{◌≡◌, ◌≤◌, ◌+◌, true, List, length};
 ghost use Rattle.twkb_points.specs.Point.{AreInRange};
-ghost use Rattle.twkb_tree.specs.Admits.{id_in_range};
 ghost use Rattle.twkb_tree.specs.Rows.{Row as TableRow};
 ghost use Rattle.twkb_tree.specs.declared.open_rows.OpenRow.{OpenRow};
 ghost use Rattle.twkb_tree.specs.Open.{is_next};
@@ -14,16 +13,6 @@ const MOST_NODES: u64 = NODES_CAP as u64;
 
 // The most points of the largest geometry.
 pub(crate) const MOST_POINTS: u64 = POINTS_CAP as u64;
-
-// Changes nothing. Its contract says that an id is from -2^63 to 2^63 - 1, if there is one.
-pub(crate) fn look_at_id(id: Option<i64>)
-    ensures { id_in_range id ≡ true }
-{
-    if let Some(number) = id {
-        // lets proofs know that the number fits 64 bits
-        let _learnt = number;
-    }
-}
 
 // Whether a row at this depth is a root (depth 0) exactly if no row is open (`levels` is 0).
 pub(crate) fn is_next(levels: u32, depth: u32) -> bool

@@ -58,8 +58,6 @@ impl RowReader {
         ensures limits { limits_of result ≡ limits }
         ensures fresh { result.state ≡ State.Fresh }
     {
-        // lets proofs know that the limits are allowed
-        let _learnt = limits.nest();
         RowReader {
             limits,
             open_rows: OpenRows::new(alloc),

@@ -160,16 +160,9 @@ impl Shape {
                 let _learnt = point.x();
                 true
             }
-            Shape::Line(points) => {
-                // lets proofs know that its points are in range
-                let _learnt = points.as_slice();
-                true
-            }
-            Shape::Polygon(rings) => {
-                // lets proofs know that its points are in range
-                let _learnt = rings.as_slice();
-                true
-            }
+            // the shapes that have no members have no ids
+            Shape::Line(points) => ids_fit(points.as_slice().len(), &None),
+            Shape::Polygon(rings) => ids_fit(rings.as_slice().len(), &None),
             Shape::MultiPoint(points, ids) => ids_fit(points.as_slice().len(), ids),
             Shape::MultiLine(lines, ids) => ids_fit(lines.as_slice().len(), ids),
             Shape::MultiPolygon(areas, ids) => ids_fit(areas.as_slice().len(), ids),

@@ -141,17 +141,6 @@ pub fn points_refusal(
     count_refusal(row_place, kind, count)
 }
 
-// Does nothing. Its contract states that an id is in the range of an i64.
-#[inline(always)]
-fn look_at_id(id: Option<i64>)
-    ensures { id_in_range id ≡ true }
-{
-    if let Some(number) = id {
-        // lets proofs know that the number fits 64 bits
-        let _learnt = number;
-    }
-}
-
 // Whether a precision is from -8 to 7, or is missing.
 #[inline(always)]
 fn is_right_precision(precision: Option<i8>) -> bool
@@ -180,7 +169,6 @@ pub fn field_refusal(
     if let Some(refusal) = place_refusal(limits, row_place, kind) {
         return Some(refusal);
     }
-    look_at_id(id);
     if let Some(refusal) = id_refusal(row_place, kind, id.is_some()) {
         return Some(refusal);
     }

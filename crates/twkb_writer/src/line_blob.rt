@@ -11,13 +11,14 @@ ghost use Rattle.twkb_writer.specs.Sizes.{entry_of};
 
 use crate::gatherer::Gatherer;
 use crate::header::{has_no_body, put_header};
-use crate::measured_rows::{count_measured, look_at_reads, take_points};
+use crate::measured_rows::{count_measured, take_points};
 use crate::piece::Piece;
 use crate::placed_points::ListedPoints;
 use crate::points::put_points;
 use crate::sizes::Entry;
 use crate::tails::TailTotals;
 use crate::totals::RowTotals;
+use twkb_flat::laws::reads_fit;
 use twkb_flat::{Node, NodeId, PointId, Row, Work};
 use twkb_grammar::Style;
 use twkb_io::Sink;
@@ -107,7 +108,7 @@ pub fn write_line<L: PointList, S: Sink>(
 {
     let count = list.count() as u32;
     count_measured(count, 1, 1, work);
-    look_at_reads(work);
+    reads_fit(*work);
     let node = line_node(precision, count);
     let line = ListedPoints { list };
     let entry = line_entry(style, &node, precision, &line, work);

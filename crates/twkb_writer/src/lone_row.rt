@@ -11,11 +11,12 @@ ghost use Rattle.twkb_writer.specs.Nodes.{ReadsExactly};
 ghost use Rattle.twkb_writer.specs.Sizes.{AreSizes};
 
 use crate::lengths::signed_len;
-use crate::measured_rows::{keep, look_at_reads, take_points};
+use crate::measured_rows::{keep, take_points};
 use crate::sizes::Entry;
 use crate::tails::TailTotals;
 use crate::totals::RowTotals;
 use std::alloc::AllocError;
+use twkb_flat::laws::reads_fit;
 use twkb_flat::{Flat, Node, NodeId, Work};
 use twkb_grammar::Style;
 use twkb_points::{Cursor, Pt};
@@ -80,13 +81,12 @@ pub(crate) fn measure_one(
     entries: &mut Vec<Entry>,
     work: &mut Work,
 ) -> Result<(), AllocError>
-    requires { length flat.now ≡ 1 }
+    requires one { length flat.now ≡ 1 }
+    requires valid { AreValidRowsOfOne largest_limits flat.now }
     ensures sizes { OnOk result (AreSizes style flat.now entries.new.items) }
     ensures reads { ReadsExactly work.old 1 (length (row_points flat.now)) work.new }
 {
-    // lets proofs know that the rows are valid
-    let _learnt = flat.node_count();
-    look_at_reads(work);
+    reads_fit(*work);
     let node = flat.node(NodeId(0), work);
     let Some(precision) = node.row.precision else {
         unreachable!()

@@ -1,5 +1,5 @@
 //! The sizes of a flat form, measured in one pass over its rows from the last to the first.
-ghost use Rattle.std.specs.Prelude.{◌≡◌, ◌+◌, ◌++◌, ◌*◌, ◌<◌, ◌≤◌, ◌^◌, ℕ, List, length};
+ghost use Rattle.std.specs.Prelude.{◌≡◌, ◌+◌, ◌++◌, ◌*◌, ◌<◌, ◌≤◌, ℕ, List, length};
 ghost use Rattle.std.specs.Prelude.{slice_index_or, IfOk, OnOk};
 ghost use Rattle.twkb_points.specs.Point.{Point};
 ghost use Rattle.twkb_tree.specs.declared.limits.TheConstants.{POINTS_CAP};
@@ -19,18 +19,9 @@ use crate::placed_points::PlacedPoints;
 use crate::sizes::{Entry, Sizes};
 use crate::tails::TailTotals;
 use std::alloc::{AllocError, Global};
+use twkb_flat::laws::reads_fit;
 use twkb_flat::{Flat, Node, NodeId, Work};
 use twkb_grammar::Style;
-
-// Changes nothing. Its contract says that both counts of reads are below 2^64.
-pub(crate) fn look_at_reads(work: &Work)
-    ensures nodes { work.now.node_reads < 2 ^ 64 }
-    ensures points { work.now.point_reads < 2 ^ 64 }
-{
-    // lets proofs know that both counts fit
-    let _learnt = work.node_reads;
-    let _learnt = work.point_reads;
-}
 
 // Returns `tail`, the totals of the points after a node's own in its geometry, with the node's own
 // before them. `tail.bytes` must be at most 2^30, and `all` may have at most 2^24 points. Reads
@@ -50,7 +41,7 @@ pub(crate) fn take_points<P: PlacedPoints>(
     ensures most { result.bytes ≤ tail.bytes + 20 * node.now.points }
     ensures reads { ReadsExactly work.old 0 node.now.points work.new }
 {
-    look_at_reads(work);
+    reads_fit(*work);
     if node.points == 0 {
         return tail;
     }
@@ -182,7 +173,7 @@ fn measure_rows(
     let total = flat.node_count();
     depths.clear();
     entries.clear();
-    look_at_reads(work);
+    reads_fit(*work);
     let mut tail = TailTotals::none();
     for back in 0..total {
         let id = NodeId(total - 1 - back);

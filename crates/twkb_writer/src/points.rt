@@ -4,8 +4,8 @@ ghost use Rattle.twkb_writer.specs.Bytes.{way_bytes, way_end, Put};
 ghost use Rattle.twkb_writer.specs.Nodes.{own_points_in, ReadsExactly};
 
 use crate::gatherer::Gatherer;
-use crate::measured_rows::look_at_reads;
 use crate::placed_points::PlacedPoints;
+use twkb_flat::laws::reads_fit;
 use twkb_flat::{Node, Work};
 use twkb_io::Sink;
 use twkb_points::Cursor;
@@ -28,7 +28,7 @@ pub(crate) fn put_points<P: PlacedPoints, S: Sink>(
     ensures moved { cursor.new ≡ way_end cursor.old (own_points_in node.now (P.points all.now)) }
     ensures reads { ReadsExactly work.old 0 node.now.points work.new }
 {
-    look_at_reads(work);
+    reads_fit(*work);
     let first = node.first.0;
     let end = first + node.points;
     let mut index = first;

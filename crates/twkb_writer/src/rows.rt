@@ -9,10 +9,10 @@ ghost use Rattle.twkb_writer.specs.Nodes.{Reads};
 use crate::gatherer::Gatherer;
 use crate::header::{has_no_body, put_header};
 use crate::job::{Job, PlacedNode};
-use crate::measured_rows::look_at_reads;
 use crate::members::{MemberList, count_members, put_ids};
 use crate::points::put_points;
 use crate::sizes::Entry;
+use twkb_flat::laws::reads_fit;
 use twkb_flat::{Flat, NodeId, Work};
 use twkb_io::Sink;
 use twkb_points::Cursor;
@@ -189,7 +189,7 @@ pub(crate) fn put_rows<S: Sink>(
         let at = PlacedNode { id, node };
         put_lead(job, &at, start.entry, gatherer, work);
         start = start_of_points(node.row.precision, start);
-        look_at_reads(work);
+        reads_fit(*work);
         put_points(flat, &node, &mut start.cursor, gatherer, work);
     }
 }

@@ -1,4 +1,4 @@
-use Rattle.std.proofs.Common.{◌∙◌, List, take, ap, arith, inl, inr, refl, subst, sym}
+use Rattle.std.proofs.Common.{◌∙◌, List, take, ap, arith, inl, inr, refl, rules, subst, sym}
 use Rattle.std.proofs.lemmas.Bool.{true≢false}
 use Rattle.twkb_points.specs.Point.{Point, AreInRange}
 use Rattle.twkb_tree.specs.Admits.{Continues}
@@ -28,7 +28,7 @@ pub returns-in_default-place-clause-refused : goal.returns-in_default-place-clau
 returns-in_default-place-clause-refused c =
     let row = c.args.row.now in
     let r = row_from_c c.in-Some.kind row (take row.points c.args.ahead.now) in
-    let none = no_place c.args.limits.now c.args.form.now r c.requires.valid
+    let none = no_place c.args.limits c.args.form.now r c.requires.valid
     c.in_default-place.ensures in
     let right = c.has_right_id.ensures.0 c.if-not-has_right_id.false in
     rw c.refused-in_default-place.ensures (inr (
@@ -39,7 +39,7 @@ returns-in_default-place-clause-refused c =
 
 pub returns-in-Some-refused_row-clause-refused : goal.returns-in-Some-refused_row-clause-refused
 returns-in-Some-refused_row-clause-refused c =
-    let l = c.args.limits.now in
+    let l = c.args.limits in
     let row = c.args.row.now in
     let own = take row.points c.args.ahead.now in
     let s = c.in-Some-place.row_place in
@@ -61,7 +61,7 @@ returns-in-Some-refused_row-clause-refused c =
 
 pub push_from-requires : goal.push_from-requires
 push_from-requires c = λ ps given.
-    let l = c.args.limits.now in
+    let l = c.args.limits in
     let rs = c.args.form.now in
     let row = c.args.row.now in
     let own = take row.points c.args.ahead.now in
@@ -72,12 +72,12 @@ push_from-requires c = λ ps given.
     let next = continues_there l rs s r c.requires.valid c.in-Some-place.ensures
     (ap (λ (t : Row). first_failed (checks_there l s t)) (sym row_is) ∙ c.in_default-refused_row.ensures)
     (subst AreInRange given.0 given.1) c.requires.next in
-    continues_largest l rs (row_with bare ps) c.nest-learnt.ensures.sound
+    continues_largest l rs (row_with bare ps) (search rules)
     (subst (Continues l rs) (sym row_is ∙ ap (λ (qs : List Point). row_with bare qs) (sym given.0)) next)
 
 pub returns-in-Ok-clause-pushed : goal.returns-in-Ok-clause-pushed
 returns-in-Ok-clause-pushed c =
-    let l = c.args.limits.now in
+    let l = c.args.limits in
     let rs = c.args.form.now in
     let row = c.args.row.now in
     let own = take row.points c.args.ahead.now in
@@ -96,7 +96,7 @@ returns-in-Ok-clause-pushed c =
 
 pub returns-in-Err-clause-refused : goal.returns-in-Err-clause-refused
 returns-in-Err-clause-refused c =
-    let l = c.args.limits.now in
+    let l = c.args.limits in
     let rs = c.args.form.now in
     let row = c.args.row.now in
     let own = take row.points c.args.ahead.now in

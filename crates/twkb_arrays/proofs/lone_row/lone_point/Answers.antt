@@ -7,5 +7,5 @@ abbrev none : BufferPoint
 none = record { x = pos 0; y = pos 0 }
 
 pub returns : goal.returns
-returns c = begins_point c.args.limits.now c.args.row.now c.args.ahead.now none c.as_point.result
+returns c = begins_point c.args.limits c.args.row.now c.args.ahead.now none c.as_point.result
     (search rules) (search rules) (search rules) c.as_point.ensures.in_range c.as_point.ensures.value

@@ -35,10 +35,10 @@ returns-clause-ok g c =
     (c.send_table-sending.ensures.ends c.args.limits _ _ _
     (sent_none c.new.ensures (search rules) (search rules) c.new-table.ensures)) in
     let finishes = rw c.after_reads-answer.ensures at c.in_ok-report.ensures.finishes in
-    rw c.packed.ensures.is (packed_with g.R.Read.remaining _ _ _ _ _ _
+    packed_with g.R.Read.remaining _ _ _ _ _ _
     (changes_as c.failures-failures.result c.failures.result _ _ c.failures-failures.ensures c.failures.ensures)
     (drained _ _ _ _ c.drain-drained.ensures.drains) finishes sends (search rules) (search rules)
-    (search rules) _ refl c.packed.ensures.fits.0 c.packed.ensures.fits.1)
+    (search rules) _ refl c.reads_fit.ensures.points c.reads_fit.ensures.nodes
 
 pub returns-clause-flushed : goal.returns-clause-flushed
 returns-clause-flushed g c =

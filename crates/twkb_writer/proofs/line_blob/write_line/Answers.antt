@@ -19,7 +19,7 @@ returns-in-Some-clause-err g c =
 pub returns-in-Some-clause-work : goal.returns-in-Some-clause-work
 returns-in-Some-clause-work g c =
     let count = c.line_node-node.ensures.points ∙ c.count-count.ensures in
-    line_work _ _ _ _ _ _ c.look_at_reads.ensures.nodes count
+    line_work _ _ _ _ _ _ c.reads_fit.ensures.nodes count
     (rw c.line_node-node.ensures.points c.count_measured.ensures)
     c.line_entry-entry.ensures.reads c.put_points.ensures.reads
 
@@ -39,6 +39,6 @@ returns-in-None-clause-ok g c =
 pub returns-in-None-clause-work : goal.returns-in-None-clause-work
 returns-in-None-clause-work g c =
     let count = c.line_node-node.ensures.points ∙ c.count-count.ensures in
-    line_work _ _ _ _ _ _ c.look_at_reads.ensures.nodes count
+    line_work _ _ _ _ _ _ c.reads_fit.ensures.nodes count
     (rw c.line_node-node.ensures.points c.count_measured.ensures)
     c.line_entry-entry.ensures.reads c.put_points.ensures.reads

@@ -11,8 +11,8 @@ loop-back-init c = record {
       (omega (arith, c.node_count-total.ensures.value)) c.clear.ensures c.none-tail.ensures
       c.clear-2.ensures.items;
   reads = reads_behind _ c.args.flat.now (c.node_count-total.result - 0)
-      (omega (arith, c.node_count-total.ensures.value)) c.look_at_reads.ensures.nodes
-      c.look_at_reads.ensures.points;
+      (omega (arith, c.node_count-total.ensures.value)) c.reads_fit.ensures.nodes
+      c.reads_fit.ensures.points;
 }
 
 pub take_points-points-requires-clause-within : goal.take_points-points-requires-clause-within

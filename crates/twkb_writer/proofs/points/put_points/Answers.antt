@@ -12,7 +12,7 @@ loop-index-init g c =
       within = omega arith;
       progress = rw same (begun _ _);
       last = ap (way_end c.args.cursor.now) same;
-      reads = exactly_same _ _ 0 0 _ (exactly_none _ c.look_at_reads.ensures.nodes c.look_at_reads.ensures.points)
+      reads = exactly_same _ _ 0 0 _ (exactly_none _ c.reads_fit.ensures.nodes c.reads_fit.ensures.points)
           (omega arith);
     }
 

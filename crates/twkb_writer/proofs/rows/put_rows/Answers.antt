@@ -59,7 +59,7 @@ loop-index-preserved g c =
         omega (arith, seen, see),
         reads_row _ _ _ _ _ _ _ _ _ reads (one_node _ _ c.node-node.ensures.no_fewer
             c.node-node.ensures.counted) c.put_lead.ensures.reads (at_most _ _ _ _
-            c.look_at_reads.ensures.nodes c.look_at_reads.ensures.points c.put_points.ensures.reads),
+            c.reads_fit.ensures.nodes c.reads_fit.ensures.points c.put_points.ensures.reads),
       );
     }
 

@@ -1,4 +1,4 @@
-use Rattle.std.proofs.Common.{◌≡◌, ◌-◌, List, [], ◌∷◌, length, map, None, sym, ap, ◌∙◌, subst, arith}
+use Rattle.std.proofs.Common.{◌≡◌, ◌-◌, List, [], ◌∷◌, length, map, None, sym, ap, ◌∙◌, subst, arith, rules}
 use Rattle.std.proofs.lemmas.List.{with_items_is}
 use Rattle.twkb_tree.specs.declared.kind.Kind.{Kind}
 use Rattle.twkb_flat.specs.declared.kept_nodes.KeptNode.{KeptNode}
@@ -38,7 +38,7 @@ invariant_of-self-2 c =
     subst (λ (es : List KeptNode). IsFlat es c.put_point.new.points.items)
     (sym (with_items_is c.put_point.new.kept c.link.new.kept (same c)))
     (member_kept _ _ _ _ c.args.point c.args.depth c.args.id _ c.self.invariant c.self.view_is
-    c.requires.member c.look_at_id.ensures c.x-learnt.ensures.in_range c.requires.nodes
+    c.requires.member (search rules) (search rules) c.requires.nodes
     c.requires.points (pushed c)).0
 
 pub returns-clause-added : goal.returns-clause-added
@@ -46,5 +46,5 @@ returns-clause-added c =
     ap (λ (es : List KeptNode). listed (map placed_of es) c.put_point.new.points.items)
     (with_items_is c.put_point.new.kept c.link.new.kept (same c))
     ∙ (member_kept _ _ _ _ c.args.point c.args.depth c.args.id _ c.self.invariant c.self.view_is
-    c.requires.member c.look_at_id.ensures c.x-learnt.ensures.in_range c.requires.nodes
+    c.requires.member (search rules) (search rules) c.requires.nodes
     c.requires.points (pushed c)).1

@@ -1,4 +1,4 @@
-use Rattle.std.proofs.Common.{[], ◌∷◌, arith}
+use Rattle.std.proofs.Common.{[], ◌∷◌, arith, rules}
 use Rattle.std.specs.Vec.{with_items}
 use Rattle.twkb_tree.specs.RowGrowth.{point_added}
 use Rattle.twkb_flat.proofs.LastPoint.{StandFor, vec_more, can_count}
@@ -10,7 +10,7 @@ behind : (c : After-count_points) → StandFor (point_added c.args.point c.args.
     (with_items c.self.inside.kept c.count_points.new.kept).items c.push.new.self.items
 behind c = vec_more (c.args.point ∷ []) _ c.self.inside.kept _ _ _ _
     (record { flat = c.self.invariant; view = c.self.view_is; line = c.requires.line })
-    (omega (arith, c.requires.room)) (c.x-learnt.ensures.in_range, tt) c.deref_mut.ensures.value
+    (omega (arith, c.requires.room)) (search rules, tt) c.deref_mut.ensures.value
     c.count_points.ensures.placed_rows c.count_points.ensures.links c.in_default.ensures.items
 
 pub count_points-requires-clause-room : goal.count_points-requires-clause-room

@@ -1,4 +1,4 @@
-use Rattle.std.proofs.Common.{[], ◌∷◌, ◌++◌, ◌≡◌, ap, append_assoc, ◌∙◌}
+use Rattle.std.proofs.Common.{[], ◌∷◌, ◌++◌, ◌≡◌, ap, append_assoc, rules, ◌∙◌}
 use Rattle.std.specs.Vec.{with_items}
 use Rattle.twkb_tree.specs.RowGrowth.{point_added}
 use Rattle.twkb_flat.proofs.LastPoint.{StandFor, vec_more, can_count}
@@ -22,7 +22,7 @@ behind c =
     ∙ append_assoc c.self.inside.points.items (c.args.first ∷ []) (c.args.second ∷ []) in
     vec_more (c.args.first ∷ c.args.second ∷ []) _ c.self.inside.kept _ _ _ _
     (record { flat = c.self.invariant; view = c.self.view_is; line = c.requires.line })
-    c.requires.room (c.x-learnt.ensures.in_range, (c.x-learnt-2.ensures.in_range, tt))
+    c.requires.room (search rules, (search rules, tt))
     c.deref_mut.ensures.value c.count_points.ensures.placed_rows c.count_points.ensures.links
     appended
 

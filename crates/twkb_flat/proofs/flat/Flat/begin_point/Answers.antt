@@ -1,4 +1,4 @@
-use Rattle.std.proofs.Common.{◌≡◌, List, [], ◌∷◌, ◌++◌, map, Some, None, refl, sym, ap, ◌∙◌, subst}
+use Rattle.std.proofs.Common.{◌≡◌, List, [], ◌∷◌, ◌++◌, map, Some, None, refl, sym, ap, ◌∙◌, subst, rules}
 use Rattle.std.proofs.lemmas.Int.{to_z-of_z}
 use Rattle.twkb_points.specs.Point.{Point}
 use Rattle.twkb_tree.specs.declared.kind.Kind.{Kind}
@@ -26,7 +26,7 @@ invariant_of-self-2 c =
     let put = simp (to_z-of_z, c.ranges.precision) at c.in_default.ensures.node in
     subst (λ (ps : List Point). IsFlat c.put_point.new.kept.items ps) (sym (points_are c))
     (begun_flat _ _ _ (c.args.point ∷ []) 1 (row_is c) (c.self.view_is ∙ c.clear.ensures)
-    (point_begins c.args.precision c.args.point c.requires c.x-learnt.ensures.in_range) refl
+    (point_begins c.args.precision c.args.point c.requires (search rules)) refl
     put)
 
 pub returns-clause-begun : goal.returns-clause-begun
@@ -34,4 +34,4 @@ returns-clause-begun c =
     let put = simp (to_z-of_z, c.ranges.precision) at c.in_default.ensures.node in
     ap (λ (ps : List Point). listed (map placed_of c.put_point.new.kept.items) ps) (points_are c)
     ∙ begun_rows _ _ _ (c.args.point ∷ []) 1 (row_is c) (c.self.view_is ∙ c.clear.ensures)
-    (point_begins c.args.precision c.args.point c.requires c.x-learnt.ensures.in_range) refl put
+    (point_begins c.args.precision c.args.point c.requires (search rules)) refl put

@@ -4,9 +4,9 @@ use Rattle.twkb_tree.proofs.geometry.Shape.has_fit_ids.Goals as goal
 pub returns-in-MultiPoint : goal.returns-in-MultiPoint
 returns-in-MultiPoint c =
     rw c.in-MultiPoint.is record {
-      fit = rw c.as_slice.ensures.items at c.ids_fit.ensures;
+      fit = rw c.as_slice-in-MultiPoint.ensures.items at c.ids_fit-in-MultiPoint.ensures;
       trees = tt;
-      in_range = c.as_slice.ensures.fit;
+      in_range = c.as_slice-in-MultiPoint.ensures.fit;
     }
 
 pub returns-in-MultiLine : goal.returns-in-MultiLine
