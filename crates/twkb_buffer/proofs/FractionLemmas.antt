@@ -111,7 +111,7 @@ product_of_parts number factor less cut some fits =
     ∙ div-mul-add (number / cut * factor + low / cut) cut (low % cut) (mod_below low cut some))
 
 -- a power of two by two smaller ones
-doubled : (k : ℕ) → 2 ^ (k + 1) ≡ 2 * 2 ^ k
+pub doubled : (k : ℕ) → 2 ^ (k + 1) ≡ 2 * 2 ^ k
 doubled k = omega (arith, pow-add 2 k 1)
 
 -- an odd number has low bits
@@ -181,7 +181,7 @@ far_product number factor below less some few beyond whole near =
     ]
 
 -- a power of two by a greater exponent
-power_more : (i j : ℕ) → i ≤ j → 2 ^ i ≤ 2 ^ j
+pub power_more : (i j : ℕ) → i ≤ j → 2 ^ i ≤ 2 ^ j
 power_more i j more = pow-le-pow_right {n = 2} (omega arith) {i = i} {j = j} more
 
 -- the same fraction in other words

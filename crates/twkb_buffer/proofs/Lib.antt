@@ -1,3 +1,4 @@
 pub mod RunLemmas
 pub mod FractionLemmas
 pub mod RoundingLemmas
+pub mod ModerateLemmas

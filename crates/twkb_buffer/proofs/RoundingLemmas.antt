@@ -5,13 +5,14 @@ use lib.Dec.{lit<}
 use lib.Ieee.Bits.{of_bits-fits}
 use lib.Ieee.Fits.{round-fits}
 use Rattle.std.proofs.Common.{◌≡◌, ◌∙◌, ℕ, ℤ, ◌+◌, ◌-◌, ◌*◌, ◌/◌, ◌%◌, ◌^◌, ◌<◌, zero, suc, max, Bool, true, false}
-use Rattle.std.proofs.Common.{cond, eqb, leb, ap, subst, sym, arith, inl, inr, ◌≤◌, List, [], ◌∷◌, ◌++◌, length, take}
+use Rattle.std.proofs.Common.{cond, eqb, leb, ltb, neg_ℤ, ap, subst, sym, arith, inl, inr, ◌≤◌, List, [], ◌∷◌, ◌++◌, length, take}
 use Rattle.std.proofs.Common.{drop, get_or, set, pos, negsuc, refl}
 use Rattle.std.proofs.Math.Nat.{eq_of_mul-eq-mul_right, mul_assoc, mul_right_comm, le_of_mul-le-mul_right}
 use Rattle.std.proofs.Math.Nat.{lt_of_le_of_lt, lt_of_mul-lt-mul_right, mul-le-mul_left, mul-le-mul_right}
 use Rattle.std.proofs.Math.Nat.{mul-lt-mul_of_pos_right, mul-pos, pow-le-pow_right, one-le-pow}
 use Rattle.std.proofs.lemmas.Bool.{cases_lt, leb-true, ltb-true}
 use Rattle.std.proofs.lemmas.Bool.Decides.{nat_tests}
+use Rattle.std.proofs.lemmas.Int.{ints}
 use Rattle.std.proofs.lemmas.Nat.{field_of, mod_below, pow-add, pow_pos, mul-le}
 use Rattle.std.specs.Float.{Float, binary64, fin, inf, nan}
 use Rattle.std.specs.Prelude.{Option, None, Some, SomeIff, nat_le, nat_lt, ◌&&◌}
@@ -23,7 +24,7 @@ use Rattle.twkb_points.specs.declared.point.TheConstants.{COORDINATE_BOUND}
 use Rattle.twkb_points.specs.Point.{IsCoordinate}
 use Rattle.twkb_buffer.specs.RoundedNumbers.{IsFinite, exponent, exponent_field, significand, with_sign, FindsNearest}
 use Rattle.twkb_buffer.specs.RoundedNumbers.{IsNearest, FindsSize, HasHalf, IsShort, IsSize, ReachesHalf, above}
-use Rattle.twkb_buffer.specs.RoundedNumbers.{above_halfway, below, below_halfway, FindsUnit, IsUnit, RoundsFront}
+use Rattle.twkb_buffer.specs.RoundedNumbers.{above_halfway, below, below_halfway, FindsUnit, IsUnit, RoundsBefore, RoundsFront}
 use Rattle.twkb_buffer.specs.RoundedNumbers.{IsScale, divisor_of, factor_of, divisor_at, factor_at}
 use Rattle.twkb_buffer.specs.declared.scale.Scale.{Scale}
 use Rattle.twkb_buffer.specs.declared.scale.Scale.TheVariants.{Over, Times}
@@ -349,6 +350,15 @@ module _ (factor divisor number : ℕ) where
         λ reaches. before_half w near (reached_within w reaches),
       )
 
+      -- that of any number, if it is found in this way and small
+      pub found_size : (size : ℕ) → size ≤ 10 ^ 14
+          → IsNearest (above_halfway factor number) (below_halfway divisor number) (m % 2) size
+          → IsSize factor divisor number size
+      found_size size few near = elim (cases_lt (10 * above factor number) (10 ^ 15 * below divisor number)) [
+        | inl short ↦ short_size size short near
+        | inr long ↦ middle_size size (λ short. omega (arith, short, long)) few near
+      ]
+
       -- the size of a number of few units is small
       pub short_near : (size : ℕ) → IsShort factor divisor number
           → IsNearest (above_halfway factor number) (below_halfway divisor number) (m % 2) size → size ≤ 10 ^ 14
@@ -450,6 +460,11 @@ ten_fits n most power few is =
     let top : 10 ^ n ≤ 10 ^ most = pow-le-pow_right {n = 10} (omega arith) {i = n} {j = most} few in
     (omega (arith, least), omega (arith, top))
 
+-- a small size is in range with either sign
+signed_fits : (b : Bool) (size : ℕ) → size ≤ 10 ^ 14 → IsCoordinate (cond b (pos size) (neg_ℤ (pos size)))
+signed_fits true size few = (omega (arith, ints), omega (arith, ints))
+signed_fits false size few = (omega (arith, ints), omega (arith, ints))
+
 -- the size that was found, with its sign, is the only one
 pub FindsUnit-size : (factor divisor number size : ℕ) (found : Option ℤ) → IsFinite number
     → IsSize factor divisor number size
@@ -466,6 +481,19 @@ FindsUnit-size factor divisor number size None finite size_is told = λ unit is.
     let same : is.size ≡ size = IsSize-one factor divisor number is.size size is.size_is size_is in
     told (subst (λ (n : ℕ). IsCoordinate (with_sign number n)) same (subst IsCoordinate is.unit_is is.in_range))
 
+-- the unit of a size that is found and small
+pub IsUnit-few : (factor divisor number size : ℕ) (coordinate : ℤ) → AreScales factor divisor → IsFinite number
+    → size ≤ 10 ^ 14
+    → IsNearest (above_halfway factor number) (below_halfway divisor number) (significand number % 2) size
+    → coordinate ≡ with_sign number size → IsUnit factor divisor number coordinate
+IsUnit-few factor divisor number size coordinate scales finite few near is = record {
+  finite = finite;
+  size = size;
+  size_is = found_size factor divisor number scales finite size few near;
+  unit_is = is;
+  in_range = subst IsCoordinate (sym is) (signed_fits (ltb number (2 ^ 63)) size few);
+}
+
 -- and so is its unit
 pub IsUnit-one : (factor divisor number : ℕ) (one other : ℤ) → IsUnit factor divisor number one
     → IsUnit factor divisor number other → one ≡ other
@@ -473,11 +501,10 @@ IsUnit-one factor divisor number one other a b =
     a.unit_is ∙ ap (with_sign number) (IsSize-one factor divisor number a.size b.size a.size_is b.size_is)
     ∙ sym b.unit_is
 
--- the first numbers are rounded
-pub record RoundsBefore (factor divisor : ℕ) (numbers : List ℕ) (old new : List ℤ) (count : ℕ) : Type 0 where
-  pub as_many : length new ≡ length old
-  pub rounded : AllZip (IsUnit factor divisor) (take count numbers) (take count new)
-  pub left : drop count new ≡ drop count old
+-- the same, of no more numbers than there are
+pub record RoundsUpTo (factor divisor : ℕ) (numbers : List ℕ) (old new : List ℤ) (count : ℕ) : Type 0 where
+  pub before : RoundsBefore factor divisor numbers old new count
+  pub within : count ≤ length numbers
 
 -- one more pair
 AllZip-more : {A B : Type 0} (R : A → B → Type 0) (xs : List A) (ys : List B) (x : A) (y : B) → AllZip R xs ys

@@ -3,6 +3,7 @@ use Rattle.std.specs.Prelude.{ℕ, ℤ, pos, neg_ℤ, ◌+◌, ◌-◌, ◌/◌,
 use Rattle.std.specs.Prelude.{Option, None, Some, negsuc, suc, ◌≡◌, ◌⊎◌, ◌↔◌, List, length, take, drop, slice_get}
 use Rattle.std.specs.Prelude.{nat_le}
 use Rattle.twkb_points.specs.declared.point.TheConstants.{COORDINATE_BOUND}
+use Rattle.twkb_buffer.specs.declared.moderate_sizes.Multiplier.{Multiplier}
 use Rattle.twkb_buffer.specs.declared.scale.Scale.{Scale}
 use Rattle.twkb_buffer.specs.declared.scale.Scale.TheVariants.{Over, Times}
 use Rattle.std.specs.Float.{binary64}
@@ -74,6 +75,18 @@ abbrev pub IsScale : Scale → Type 0
 IsScale (Times factor) = (0 < factor) × (factor ≤ 10 ^ 7)
 IsScale (Over divisor) = (0 < divisor) × (divisor ≤ 10 ^ 8)
 
+-- ==== What moderate doubles are multiplied by.
+
+-- The multiple is a factor of a scale times a power of two, and has 24 bits at most. The greatest
+-- exponent of moderate doubles is greater by as many as the power of two has.
+pub record IsMultiplier (multiplier : Multiplier) : Type 0 where
+  pub positive : 0 < multiplier.factor
+  pub small : multiplier.factor ≤ 10 ^ 7
+  pub least : 1043 ≤ multiplier.greatest
+  pub most : multiplier.greatest ≤ 1047
+  pub multiple_is : multiplier.multiple ≡ multiplier.factor * 2 ^ (multiplier.greatest - 1043)
+  pub fits : multiplier.multiple < 2 ^ 24
+
 -- ==== Numbers as coordinates: each the whole number of units nearest to it, of two the one farther
 -- from 0. Up to 10^14 units a double that is the nearest one to a half counts as that half
 -- (profile).
@@ -135,6 +148,12 @@ pub record IsUnit (factor divisor number : ℕ) (unit : ℤ) : Type 0 where
 abbrev pub FindsUnit : ℕ → ℕ → ℕ → Option ℤ → Type 0
 FindsUnit factor divisor number (Some unit) = IsUnit factor divisor number unit
 FindsUnit factor divisor number None = (unit : ℤ) → ¬ IsUnit factor divisor number unit
+
+-- The first numbers are rounded. Later places of the array are unchanged.
+pub record RoundsBefore (factor divisor : ℕ) (numbers : List ℕ) (old new : List ℤ) (count : ℕ) : Type 0 where
+  pub as_many : length new ≡ length old
+  pub rounded : AllZip (IsUnit factor divisor) (take count numbers) (take count new)
+  pub left : drop count new ≡ drop count old
 
 -- The first numbers are rounded, up to the first that has no coordinate. Later places of the array
 -- are unchanged.

@@ -1,12 +1,13 @@
 //! The parts of a double, given as the number that its 64 bits are (IEEE 754-2019, 3.4, binary64).
 ghost use Rattle.std.specs.Prelude.{◌≡◌, ◌^◌, ◌<◌, ◌≤◌, SomeIff};
 ghost use Rattle.twkb_points.specs.Point.{IsCoordinate};
+ghost use Rattle.twkb_points.specs.declared.point.TheConstants.{COORDINATE_BOUND};
 ghost use Rattle.twkb_buffer.specs.RoundedNumbers.{exponent, exponent_field, significand, with_sign};
 
 use twkb_points::COORDINATE_BOUND;
 
 // The weight of the lowest bit of the exponent, and of a significand's leading bit.
-const LEADING_BIT: u64 = 1 << 52;
+pub(crate) const LEADING_BIT: u64 = 1 << 52;
 
 // The numbers that eleven bits have.
 const EXPONENTS: u64 = 1 << 11;
@@ -48,6 +49,18 @@ pub(crate) fn exponent(number: u64) -> u64
     exponent_field(number).max(1)
 }
 
+// The coordinate that has this size and the sign of a double. The size must be at most 2^62.
+pub(crate) fn signed(number: u64, size: u64) -> i64
+    requires { size ≤ COORDINATE_BOUND }
+    ensures { result ≡ with_sign number size }
+{
+    if number >= SIGN_BIT {
+        -(size as i64)
+    } else {
+        size as i64
+    }
+}
+
 // The coordinate that has this size and the sign of a double; `None` if that is not in the range of
 // a coordinate, -2^62 to 2^62 - 1.
 pub(crate) fn with_sign(number: u64, size: u64) -> Option<i64>
@@ -56,11 +69,7 @@ pub(crate) fn with_sign(number: u64, size: u64) -> Option<i64>
     if size > COORDINATE_BOUND {
         return None;
     }
-    let unit = if number >= SIGN_BIT {
-        -(size as i64)
-    } else {
-        size as i64
-    };
+    let unit = signed(number, size);
     if unit < COORDINATE_BOUND as i64 {
         Some(unit)
     } else {

@@ -7,6 +7,7 @@ mod filler;
 mod fractions;
 pub mod laws;
 mod lengths;
+mod moderate_sizes;
 mod point;
 mod polylines;
 mod reason_numbers;

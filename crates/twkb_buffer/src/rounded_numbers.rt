@@ -1,14 +1,16 @@
 //! Doubles rounded to coordinates in an array. Each double is given by its 64 bits, its `number`; a
 //! scale must be one that `scale_of` gives.
-ghost use Rattle.std.specs.Prelude.{◌≡◌, ◌-◌, ◌*◌, ◌%◌, ◌^◌, ◌<◌, ◌≤◌, length};
+ghost use Rattle.std.specs.Prelude.{◌≡◌, ℤ, ◌-◌, ◌*◌, ◌%◌, ◌^◌, ◌<◌, ◌≤◌, IfSome, List, length};
 ghost use Rattle.twkb_tree.specs.Tree.{IsPrecision};
 ghost use Rattle.twkb_buffer.specs.RoundedNumbers.{IsFinite, exponent, significand, FindsNearest, FindsSize};
-ghost use Rattle.twkb_buffer.specs.RoundedNumbers.{FindsUnit, Rounds, RoundsFront, above, above_halfway, below};
+ghost use Rattle.twkb_buffer.specs.RoundedNumbers.{FindsUnit, IsMultiplier, IsUnit, Rounds, RoundsBefore, RoundsFront};
+ghost use Rattle.twkb_buffer.specs.RoundedNumbers.{above, above_halfway, below};
 ghost use Rattle.twkb_buffer.specs.RoundedNumbers.{below_halfway, rounded_report, IsScale, divisor_of, factor_of};
 ghost use Rattle.twkb_buffer.specs.Polylines.{nothing_report};
 
-use crate::binary64::{NOT_FINITE, exponent, exponent_field, significand, with_sign};
+use crate::binary64::{NOT_FINITE, exponent, exponent_field, signed, significand, with_sign};
 use crate::fractions::{divided, multiplied};
+use crate::moderate_sizes::{Multiplier, moderate_size, multiplier_of};
 use crate::polylines::nothing_put;
 use crate::reason_numbers::{ARGUMENTS, DONE, REFUSED, TOO_SMALL, point_text_number};
 use crate::report::BufferReport;
@@ -92,6 +94,54 @@ fn unit_of(number: u64, scale: Scale) -> Option<i64>
     with_sign(number, size)
 }
 
+// The coordinate to which a moderate double is rounded; `None` if the double is not moderate.
+#[inline(always)]
+fn moderate_unit(number: u64, multiplier: Multiplier) -> Option<i64>
+    requires { IsMultiplier multiplier }
+    ensures { IfSome result (IsUnit multiplier.factor 1 number) }
+{
+    let size = moderate_size(number, multiplier)?;
+    Some(signed(number, size))
+}
+
+// Rounds doubles from the index `start` on into `units`, up to the first that is not moderate, and
+// returns its index, or how many doubles there are. `units` must have a place for each. Out of line:
+// a loop with no call keeps its values in registers.
+#[inline(never)]
+fn round_moderate(numbers: &[u64], start: usize, multiplier: Multiplier, units: &mut [i64]) -> usize
+    requires multiplier { IsMultiplier multiplier }
+    requires start { start ≤ length numbers.now }
+    requires room { length numbers.now ≤ length units.old }
+    ensures least { start ≤ result }
+    ensures most { result ≤ length numbers.now }
+    ensures rounds { (old : List ℤ) → RoundsBefore multiplier.factor 1 numbers.now old units.old start
+        → RoundsBefore multiplier.factor 1 numbers.now old units.new result }
+{
+    for at in start..numbers.len() {
+        let Some(unit) = moderate_unit(numbers[at], multiplier) else {
+            return at;
+        };
+        units[at] = unit;
+    }
+    numbers.len()
+}
+
+// The same at a scale. At one that divides no double is moderate.
+fn round_moderate_by(numbers: &[u64], start: usize, scale: Scale, units: &mut [i64]) -> usize
+    requires scale { IsScale scale }
+    requires start { start ≤ length numbers.now }
+    requires room { length numbers.now ≤ length units.old }
+    ensures least { start ≤ result }
+    ensures most { result ≤ length numbers.now }
+    ensures rounds { (old : List ℤ) → RoundsBefore (factor_of scale) (divisor_of scale) numbers.now old units.old start
+        → RoundsBefore (factor_of scale) (divisor_of scale) numbers.now old units.new result }
+{
+    match scale {
+        Scale::Times(factor) => round_moderate(numbers, start, multiplier_of(factor), units),
+        Scale::Over(_) => start,
+    }
+}
+
 // Rounds doubles into `units`, which must have a place for each, up to the first that has no
 // coordinate, and returns how many it has rounded. Later places stay as they were.
 fn round_front(numbers: &[u64], scale: Scale, units: &mut [i64]) -> usize
@@ -99,11 +149,16 @@ fn round_front(numbers: &[u64], scale: Scale, units: &mut [i64]) -> usize
     requires room { length numbers.now ≤ length units.old }
     ensures { RoundsFront (factor_of scale) (divisor_of scale) numbers.now units.old units.new result }
 {
-    for at in 0..numbers.len() {
-        let Some(unit) = unit_of(numbers[at], scale) else {
-            return at;
-        };
-        units[at] = unit;
+    let mut count = 0;
+    while count < numbers.len() {
+        count = round_moderate_by(numbers, count, scale, units);
+        if count < numbers.len() {
+            let Some(unit) = unit_of(numbers[count], scale) else {
+                return count;
+            };
+            units[count] = unit;
+            count += 1;
+        }
     }
     numbers.len()
 }

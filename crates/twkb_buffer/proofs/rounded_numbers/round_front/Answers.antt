@@ -4,13 +4,19 @@ use Rattle.twkb_buffer.proofs.RoundingLemmas.{rounds_all, rounds_more, rounds_to
 use Rattle.twkb_buffer.proofs.rounded_numbers.round_front.Goals as goal
 
 pub returns-in_default : goal.returns-in_default
-returns-in_default c = rounds_to c.loop-at.invariant c.loop-at-test.true c.in_default.ensures
+returns-in_default c =
+    rounds_to (c.round_moderate_by-count.ensures.rounds c.args.units.now c.loop-count.invariant.before) (omega arith)
+    c.in_default.ensures
 
-pub loop-at-preserved : goal.loop-at-preserved
-loop-at-preserved c =
+pub loop-count-preserved-then-count-numbers : goal.loop-count-preserved-then-count-numbers
+loop-count-preserved-then-count-numbers c =
     let fits : SFits w64 c.in-Some.unit = search rules in
-    simp (to_z-of_z w64 c.in-Some.unit fits)
-    (rounds_more c.loop-at.invariant c.loop-at-test.true c.requires.room c.in-Some.ensures)
+    record {
+      before = simp (to_z-of_z w64 c.in-Some.unit fits)
+          (rounds_more (c.round_moderate_by-count.ensures.rounds c.args.units.now c.loop-count.invariant.before)
+          (omega arith) c.requires.room c.in-Some.ensures);
+      within = omega arith;
+    }
 
 pub returns : goal.returns
-returns c = rounds_all c.loop-at.invariant (omega arith)
+returns c = rounds_all c.loop-count.invariant.before (omega (arith, c.loop-count.invariant.within))
