@@ -5,7 +5,8 @@ use lib.Dec.{lit<}
 use lib.Ieee.Bits.{of_bits-fits}
 use lib.Ieee.Fits.{round-fits}
 use Rattle.std.proofs.Common.{◌≡◌, ◌∙◌, ℕ, ℤ, ◌+◌, ◌-◌, ◌*◌, ◌/◌, ◌%◌, ◌^◌, ◌<◌, zero, suc, max, Bool, true, false}
-use Rattle.std.proofs.Common.{cond, eqb, leb, ltb, neg_ℤ, ap, subst, sym, arith, inl, inr, ◌≤◌, List, [], ◌∷◌, ◌++◌, length, take}
+use Rattle.std.proofs.Common.{cond, eqb, leb, ltb, neg_ℤ, ap, subst, sym, arith, inl, inr, ◌≤◌, List, [], ◌∷◌, ◌++◌}
+use Rattle.std.proofs.Common.{length, take}
 use Rattle.std.proofs.Common.{drop, get_or, set, pos, negsuc, refl}
 use Rattle.std.proofs.Math.Nat.{eq_of_mul-eq-mul_right, mul_assoc, mul_right_comm, le_of_mul-le-mul_right}
 use Rattle.std.proofs.Math.Nat.{lt_of_le_of_lt, lt_of_mul-lt-mul_right, mul-le-mul_left, mul-le-mul_right}
@@ -24,7 +25,8 @@ use Rattle.twkb_points.specs.declared.point.TheConstants.{COORDINATE_BOUND}
 use Rattle.twkb_points.specs.Point.{IsCoordinate}
 use Rattle.twkb_buffer.specs.RoundedNumbers.{IsFinite, exponent, exponent_field, significand, with_sign, FindsNearest}
 use Rattle.twkb_buffer.specs.RoundedNumbers.{IsNearest, FindsSize, HasHalf, IsShort, IsSize, ReachesHalf, above}
-use Rattle.twkb_buffer.specs.RoundedNumbers.{above_halfway, below, below_halfway, FindsUnit, IsUnit, RoundsBefore, RoundsFront}
+use Rattle.twkb_buffer.specs.RoundedNumbers.{above_halfway, below, below_halfway, FindsUnit, IsUnit, RoundsBefore}
+use Rattle.twkb_buffer.specs.RoundedNumbers.{RoundsFront}
 use Rattle.twkb_buffer.specs.RoundedNumbers.{IsScale, divisor_of, factor_of, divisor_at, factor_at}
 use Rattle.twkb_buffer.specs.declared.scale.Scale.{Scale}
 use Rattle.twkb_buffer.specs.declared.scale.Scale.TheVariants.{Over, Times}
