@@ -20,7 +20,7 @@ use Rattle.twkb_body.specs.HeaderParts.{PartIn, Passes, IsJudged}
 use Rattle.twkb_body.proofs.Outlined.{outlined_bytes, outlined_long, outlined_ends, outlined_refused, noted_item}
 use Rattle.twkb_body.proofs.PointRuns.{landed_judged}
 use Rattle.twkb_engine.specs.Fits.{IsByte}
-use Rattle.twkb_engine.specs.Taking.{NotesGo, notes_with, open_in, Takes, BeginsAt, Keeps, Stays}
+use Rattle.twkb_engine.specs.Taking.{NotesGo, notes_with, open_in, TakesItem, BeginsAt, Stays}
 use Rattle.twkb_engine.specs.State.{IsNext, IsPlaced, sums_of, outline_in, allowance_of}
 use Rattle.twkb_engine.specs.Standing.{StandsAt, IsAlive, FedBy, IsFed, count_of, RefusedIn, with_used, notes_at}
 use Rattle.twkb_engine.specs.Standing.{held_in, offset_in, LeadsOn, TakesMany, IsReady, IsAnswer, HoldsSpans}
@@ -29,7 +29,8 @@ use Rattle.twkb_engine.specs.Stops.{Stop, reason_of}
 use Rattle.twkb_flat.specs.declared.stop.Stop.TheVariants.{Memory, Refused}
 use Rattle.twkb_engine.specs.declared.engine.Engine.{Engine}
 use Rattle.twkb_engine.proofs.Steps.{next_role, next_number, open_noted, noted_ends, outlined_blob, stands_begun}
-use Rattle.twkb_engine.proofs.Steps.{stands_whole, number_written, stands_else, all_whole, Fields, SameItem}
+use Rattle.twkb_engine.proofs.Steps.{stands_whole, number_written, stands_else, all_whole, noted_at, Fields}
+use Rattle.twkb_engine.proofs.Steps.{SameItem}
 use Rattle.std.specs.Result.{IsErrAnd}
 use Rattle.std.proofs.lemmas.Result.{err_from_is_err_and}
 use Rattle.std.proofs.Math.Seq.{take-suc}
@@ -104,70 +105,75 @@ module _ {limits : Allowance} {bs piece : List ℕ} {used : ℕ} {sums : Sums} {
 
 -- ---- an item is taken
 
-module _ {S : Type 0} (holds : S → Notes → Type 0) (bs : List ℕ) (rs more : List Row) (d e : Engine)
-    (old new : S) (front : List ℕ) (stood : Outlined d.limits front (sums_of d) (outline_in d) rs)
-    (r : Role) (n : ℕ) (bytes piece : List ℕ) (used : ℕ)
-    (says : IsNext r d) (gives : Gives r n bytes) (some : 0 < used) (within : used ≤ length piece)
-    (at : front ++ bytes ≡ bs ++ take used piece) (limits : e.limits ≡ d.limits)
-    (none : held_in e ≡ []) where
+module _ {S : Type 0} (holds : S → Notes → Type 0) (front : List ℕ) (rs more : List Row) (d e : Engine) (old new : S)
+    (bs bytes piece : List ℕ) (n used : ℕ) (s : StandsAt front rs d) (gives : Gives (next_role d).0 n bytes)
+    (some : 0 < used) (within : used ≤ length piece) (at : s.front ++ bytes ≡ bs ++ take used piece)
+    (none : held_in d ≡ []) where
+  abbrev r : Role
+  r = (next_role d).0
+
+  abbrev says : IsNext r d
+  says = (next_role d).1
+
   abbrev item : Item
   item = record { role = r; number = n; bytes = bytes }
 
   abbrev told : ℕ → Notes
-  told = λ start. noted_by start (sums_of d) r n (notes_in start stood)
+  told = λ start. noted_by start (sums_of d) r n (notes_in start s.outlined)
 
   abbrev Known : Type 0
-  Known = holds old (notes_in d.start stood)
+  Known = holds old (notes_at s)
 
   reads : objection d.limits (sums_of d) r n ≡ None
       → Reads d.limits bs piece used (added (sums_of d) item) (outline_after (sums_of d) item (outline_in d))
       (applied (change_after (sums_of d) item (outline_in d)) rs) told
-  reads free =
-      let here : NotedOutline d.limits front (sums_of d) (outline_in d) rs
-      (λ start. notes_in start stood) = record { outlined = stood; notes = λ start. refl } in
-      record {
-        some = some;
-        within = within;
-        stood = subst (λ l. NotedOutline d.limits l (added (sums_of d) item)
-            (outline_after (sums_of d) item (outline_in d))
-            (applied (change_after (sums_of d) item (outline_in d)) rs) told) at
-            (noted_item d.limits front (sums_of d) (outline_in d) rs _ item here says gives free);
-      }
-
-  noted : (w : Notes → Notes) → NotesGo holds w d old new → Known → holds new (w (notes_in d.start stood))
-  noted w go known =
-      go _ (open_noted d.limits front (sums_of d) (outline_in d) rs stood d.start) known
-
-  of_answer : (answer : Result Bool Stop) → Takes r n (length bytes) d rs answer e more
-      → IfOk answer (λ ends. NotesGo holds (notes_with r n (length bytes) d e ends) d old new)
-      → OnOk answer (IsPlaced e.next e)
-      → IsFed holds Known (allowance_of d) d.start bs piece (with_used used answer) more e new
-  of_answer (Ok false) t go placed =
-      past_on (reads t.0) holds Known d.start more e new t.1 t.2 limits t.4.start t.3 placed none
-      (noted (notes_with r n (length bytes) d e false) go)
-  of_answer (Ok true) t go placed =
-      past_blob (reads t.0) holds Known d.start more e new t.1 t.3 t.2 none
-      (noted (notes_with r n (length bytes) d e true) go)
-  of_answer (Err Memory) t go placed = past_judged (reads t.0) t.1
-  of_answer (Err (Refused why)) (inl t) go placed = record {
-    used = used;
+  reads free = record {
     some = some;
     within = within;
-    fault = λ rest. subst (λ l. FirstFault d.limits (l ++ rest) e.bytes (reason_of why)) at
-        (rw (append_assoc, t.1) (outlined_refused d.limits front (sums_of d) (outline_in d) rs item
-        (reason_of why) stood says gives t.0 rest));
+    stood = subst (λ l. NotedOutline d.limits l (added (sums_of d) item)
+        (outline_after (sums_of d) item (outline_in d))
+        (applied (change_after (sums_of d) item (outline_in d)) rs) told) at
+        (noted_item d.limits s.front (sums_of d) (outline_in d) rs _ item (noted_at s) says gives free);
   }
-  of_answer (Err (Refused why)) (inr t) go placed = past_wrong (reads t.0) e.bytes (reason_of why) t.1 t.2
 
-  pub item_fed : (width : ℕ) (answer : Result Bool Stop) → length bytes ≡ width
-      → Takes r n width d rs answer e more → IfOk answer
-      (λ ends. NotesGo holds (notes_with r n width d e ends) d old new)
-      → OnOk answer (IsPlaced e.next e)
+  noted : (w : Notes → Notes) → NotesGo holds w d old new → Known → holds new (w (notes_at s))
+  noted w go known =
+      go _ (open_noted d.limits s.front (sums_of d) (outline_in d) rs s.outlined d.start) known
+
+  of_answer : (answer : Result Bool Stop) → TakesItem holds r n (length bytes) d rs old answer e more new
       → IsFed holds Known (allowance_of d) d.start bs piece (with_used used answer) more e new
-  item_fed width answer size t go placed =
-      of_answer answer (subst (λ k. Takes r n k d rs answer e more) (sym size) t)
-      (subst (λ k. IfOk answer (λ ends. NotesGo holds (notes_with r n k d e ends) d old new))
-      (sym size) go) placed
+  of_answer (Ok false) t =
+      let k = t.taken in
+      past_on (reads k.0) holds Known d.start more e new k.1 k.2 t.kept.limits k.4.start k.3 (t.placed s.placed)
+      (t.kept.held ∙ none) (noted (notes_with r n (length bytes) d e false) t.noted)
+  of_answer (Ok true) t =
+      let k = t.taken in
+      past_blob (reads k.0) holds Known d.start more e new k.1 k.3 k.2 (t.kept.held ∙ none)
+      (noted (notes_with r n (length bytes) d e true) t.noted)
+  of_answer (Err Memory) t = past_judged (reads t.taken.0) t.taken.1
+  of_answer (Err (Refused why)) t = elim t.taken [
+    | inl k ↦ record {
+      used = used;
+      some = some;
+      within = within;
+      fault = λ rest. subst (λ l. FirstFault d.limits (l ++ rest) e.bytes (reason_of why)) at
+          (rw (append_assoc, k.1) (outlined_refused d.limits s.front (sums_of d) (outline_in d) rs item
+          (reason_of why) s.outlined says gives k.0 rest));
+    }
+    | inr k ↦ past_wrong (reads k.0) e.bytes (reason_of why) k.1 k.2
+  ]
+
+  pub item_fed : {width : ℕ} (answer : Result Bool Stop) → length bytes ≡ width
+      → ((r : Role) → IsNext r d → TakesItem holds r n width d rs old answer e more new)
+      → IsFed holds Known (allowance_of d) d.start bs piece (with_used used answer) more e new
+  item_fed answer size t =
+      of_answer answer (subst (λ k. TakesItem holds r n k d rs old answer e more new) (sym size) (t r says))
+
+-- the limits stay
+pub limits_kept : {S : Type 0} {holds : S → Notes → Type 0} {rs more : List Row} {d e : Engine} {old new : S}
+    {n width : ℕ} {answer : Result Bool Stop}
+    → ((r : Role) → IsNext r d → TakesItem holds r n width d rs old answer e more new) → e.limits ≡ d.limits
+limits_kept {d = d} t = let r = next_role d in (t r.0 r.1).kept.limits
 
 -- ---- a byte is taken
 
@@ -206,24 +212,18 @@ long_refused bs piece used rs d s spelled some within long = record {
 pub number_fed : {S : Type 0} (holds : S → Notes → Type 0) (bs : List ℕ) (rs more : List Row)
     (d b e : Engine) (old new : S) (u value width : ℕ) (answer : Result Bool Stop)
     (s : StandsAt bs rs d) → SameItem d b → held_in b ≡ [] → (IsByte d.next → ⊥)
-    → IsVarint (held_in d ++ u ∷ []) value → width ≡ length (held_in d) + 1 → e.limits ≡ b.limits
-    → held_in e ≡ held_in b → ((r : Role) → IsNext r b → Takes r value width b rs answer e more)
-    → ((r : Role) → IsNext r b
-    → IfOk answer (λ ends. NotesGo holds (notes_with r value width b e ends) b old new))
-    → (IsPlaced b.next b → OnOk answer (IsPlaced e.next e))
+    → IsVarint (held_in d ++ u ∷ []) value → width ≡ length (held_in d) + 1
+    → ((r : Role) → IsNext r b → TakesItem holds r value width b rs old answer e more new)
     → IsFed holds (holds old (notes_at s)) (allowance_of d) d.start bs (u ∷ []) (with_used 1 answer) more e new
-number_fed holds bs rs more d b e old new u value width answer s q none spelled v size limits held takes noted placed =
+number_fed holds bs rs more d b e old new u value width answer s q none spelled v size takes =
     let whole : List ℕ = held_in d ++ u ∷ [] in
     let (t, front, notes) = stands_else bs s.front rs d b q s
     (sym (ap (λ l. s.front ++ l) none ∙ append-nil s.front)) (inr none) in
-    let r = next_role b in
     let at : t.front ++ whole ≡ bs ++ take 1 (u ∷ []) = ap (λ l. l ++ whole) front
     ∙ (held_bytes bs s.front (held_in d) (u ∷ []) [] s.whole ∙ append-nil (bs ++ u ∷ [])) in
-    let fed = item_fed holds bs rs more b e old new t.front t.outlined r.0 value whole (u ∷ []) 1
-    r.1 (number_written b value whole v (λ byte. spelled (subst IsByte (ap (λ (g : Fields). g.next) q) byte)))
-    (omega arith) (omega arith) at limits (held ∙ none)
-    width answer (omega (arith, length-append (held_in d) (u ∷ []), size)) (takes r.0 r.1)
-    (noted r.0 r.1) (placed t.placed) in
+    let fed = item_fed holds s.front rs more b e old new bs whole (u ∷ []) value 1 t
+    (number_written b value whole v (λ byte. spelled (subst IsByte (ap (λ (g : Fields). g.next) q) byte)))
+    (omega arith) (omega arith) at none answer (omega (arith, length-append (held_in d) (u ∷ []), size)) takes in
     subst (λ (x : Allowance × ℕ × Notes). IsFed holds (holds old x.2) x.0 x.1 bs (u ∷ [])
     (with_used 1 answer) more e new)
     (λ i. ((q i).limits, (q i).start, notes i)) fed
@@ -370,18 +370,15 @@ module _ {S : Type 0} {holds : S → Notes → Type 0} {d e : Engine} {rs more :
 
   -- so many bytes say the next item
   pub front_fed : {n count : ℕ} (answer : Result Bool Stop) → held_in d ≡ [] → SaysNext d piece n count
-      → Keeps d e → ((r : Role) → IsNext r d → Takes r n count d rs answer e more)
-      → ((r : Role) → IsNext r d → IfOk answer (λ ends. NotesGo holds (notes_with r n count d e ends) d old new))
-      → (IsPlaced d.next d → OnOk answer (IsPlaced e.next e))
+      → ((r : Role) → IsNext r d → TakesItem holds r n count d rs old answer e more new)
       → IsAnswer holds d rs old piece (with_used count answer) e more new
-  front_fed {n = n} {count = count} answer none says kept takes noted placed =
+  front_fed {n = n} {count = count} answer none says takes =
       let r = next_role d in
       record {
-        limits = kept.limits;
-        fed = λ bs s. item_fed holds bs rs more d e old new s.front s.outlined r.0 n (take count piece) piece
-            count r.1 (says.gives r.0 r.1) says.some says.within
-            (ap (λ l. l ++ take count piece) (sym (all_whole bs rs d none s))) kept.limits (kept.held ∙ none)
-            count answer (length-take-le count piece says.within) (takes r.0 r.1) (noted r.0 r.1) (placed s.placed);
+        limits = limits_kept takes;
+        fed = λ bs s. item_fed holds bs rs more d e old new bs (take count piece) piece n count s (says.gives r.0 r.1) says.some
+            says.within (ap (λ l. l ++ take count piece) (sym (all_whole bs rs d none s))) none answer
+            (length-take-le count piece says.within) takes;
       }
 
   -- bytes lead on within the blob
@@ -391,20 +388,14 @@ module _ {S : Type 0} {holds : S → Notes → Type 0} {d e : Engine} {rs more :
       record { limits = stays.limits; fed = λ bs s. (let f = led bs s in (within, stays.start, f.0, f.1)) }
 
   -- the same stop
-  pub same_stop : {stop : Stop} (r : Result (ℕ × Bool) Stop) {Q : Stop → Type 0} → IsErrAnd r Q
-      → ((y : Stop) → Q y → y ≡ stop) → IsAnswer holds d rs old piece (Err stop) e more new
-      → IsAnswer holds d rs old piece r e more new
-  same_stop r is same a =
-      let p = err_from_is_err_and r is in
-      subst (λ x. IsAnswer holds d rs old piece x e more new)
-      (sym (p.1 ∙ ap (λ (y : Stop). let q : Result (ℕ × Bool) Stop = Err y in q)
-      (same p.0 p.2))) a
+  pub same_stop : {stop : Stop} {r : Result (ℕ × Bool) Stop} → IsErrAnd r (λ y. y ≡ stop)
+      → IsAnswer holds d rs old piece (Err stop) e more new → IsAnswer holds d rs old piece r e more new
+  same_stop {r = r} is a = let p = err_from_is_err_and r is in rw (p.1, p.2) a
 
   -- there is no memory
-  pub stops_fed : (r : Result (ℕ × Bool) Stop) {Q : Stop → Type 0} → IsErrAnd r Q
-      → ((y : Stop) → Q y → y ≡ Memory) → StopsIn rs d piece → Stays d e
+  pub stops_fed : {r : Result (ℕ × Bool) Stop} → IsErrAnd r (λ y. y ≡ Memory) → StopsIn rs d piece → Stays d e
       → IsAnswer holds d rs old piece r e more new
-  stops_fed r is same stops stays = same_stop r is same (record { limits = stays.limits; fed = stops })
+  stops_fed is stops stays = same_stop is (record { limits = stays.limits; fed = stops })
 
   -- no more are used than there are
   pub few_used : {count : ℕ} (ends : Bool) → IsReady rs d (length piece)
@@ -479,7 +470,6 @@ module _ {E S : Type 0} {holds : S → Notes → Type 0} {d e : Engine} {rs more
   many_fed t =
       led_fed t.within (λ bs s. let f = t.led bs s in (f.0, λ known. subst (holds old) (sym f.1) known)) t.stays
 
-  pub many_stopped : {why : E} (r : Result (ℕ × Bool) Stop) {Q : Stop → Type 0} → IsErrAnd r Q
-      → ((y : Stop) → Q y → y ≡ Memory) → TakesMany rs d piece (Err why) more e
-      → IsAnswer holds d rs old piece r e more old
-  many_stopped r is same t = stops_fed r is same t.memory t.stays
+  pub many_stopped : {why : E} {r : Result (ℕ × Bool) Stop} → IsErrAnd r (λ y. y ≡ Memory)
+      → TakesMany rs d piece (Err why) more e → IsAnswer holds d rs old piece r e more old
+  many_stopped is t = stops_fed is t.memory t.stays

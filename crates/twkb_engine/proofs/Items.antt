@@ -7,7 +7,7 @@ use Rattle.std.proofs.lemmas.List.{length-take-le, length-set, take-set, get_or-
 use Rattle.std.proofs.lemmas.Grind.{take-set_at, common_steps}
 use Rattle.smallvec.specs.SmallVec.{SmallVec, with_items}
 use Rattle.smallvec.proofs.SmallVecLemmas.{items-with_items}
-use Rattle.std.specs.Prelude.{Ok, ℤ, Option}
+use Rattle.std.specs.Prelude.{Ok, ℤ, Option, IfOk, OnOk}
 use Rattle.twkb_tree.specs.Rows.{first_id, other_ids, Row}
 use Rattle.twkb_grammar.specs.Machine as machine
 use Rattle.twkb_grammar.specs.Machine.{ManyGeometries, Sums, listed}
@@ -45,6 +45,8 @@ use Rattle.twkb_engine.specs.State.{outline_in, sums_of, IsPlaced, IsNext, IsHer
 use Rattle.twkb_engine.specs.State.{allowance_of}
 use Rattle.twkb_engine.specs.Caps.{depth_cap}
 use Rattle.twkb_engine.specs.Taking.{IsFree, brings, Takes, Lands, SameBlob, BeginsAt, way_of, sums_with, shut_at}
+use Rattle.twkb_engine.specs.Taking.{TakesItem, Keeps, NotesGo, notes_with}
+use Rattle.twkb_grammar.specs.Noting.{Notes}
 use Rattle.twkb_engine.specs.Taking.{last_lists, point_row, open_in}
 use Rattle.twkb_engine.specs.Standing.{IsAlive, ComesNext, StandsAt, IsEnd, held_in, offset_in}
 use Rattle.twkb_engine.specs.declared.next_item.NextItem.{NextItem}
@@ -297,6 +299,14 @@ module _ {rs : List Row} {d : Engine} {r : Role} {n width : ℕ} {way : Result O
   takes_none e more answer err passes =
       let p = err_from_is_err_and answer err in rw (p.1, p.2)
       (l.free, subst Passes (sym l.way_is) passes)
+
+-- its answer, with what is noted and kept
+pub took : {S : Type 0} {holds : S → Notes → Type 0} {r : Role} {n width : ℕ} {d e : Engine} {rs more : List Row}
+    {old new : S} {answer : Result Bool Stop} → Takes r n width d rs answer e more
+    → IfOk answer (λ ends. NotesGo holds (notes_with r n width d e ends) d old new)
+    → (IsPlaced d.next d → OnOk answer (IsPlaced e.next e)) → Keeps d e
+    → TakesItem holds r n width d rs old answer e more new
+took taken noted placed kept = record { taken = taken; noted = noted; placed = placed; kept = kept }
 
 -- ==== A y: where it leads, and what it brings.
 

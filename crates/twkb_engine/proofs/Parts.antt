@@ -40,11 +40,11 @@ use Rattle.twkb_body.proofs.Outlined.{noted_item}
 use Rattle.twkb_body.proofs.PointRuns.{outlined_judged}
 use Rattle.twkb_body.proofs.InFront.{used_join}
 use Rattle.twkb_body.proofs.HeaderParts.{read_ahead}
-use Rattle.twkb_engine.specs.State.{stage_at, outline_in, size_roles, ids_in, sums_of, IsPlaced}
+use Rattle.twkb_engine.specs.State.{stage_at, outline_in, size_roles, ids_in, sums_of, IsPlaced, IsHere}
 use Rattle.twkb_engine.specs.Collections.{frames_of}
 use Rattle.twkb_engine.specs.Fits.{item_fits, lists_fit, are_shut, is_typed, header_item, IsHeaderItem, IsInside}
 use Rattle.twkb_engine.specs.Fits.{has_members}
-use Rattle.twkb_engine.specs.Taking.{NotesGo, open_in, AreOpen, notes_past, Lands, own_row, past_end, past_value}
+use Rattle.twkb_engine.specs.Taking.{NotesGo, open_in, AreOpen, notes_past, Lands, GoesOn, Keeps, own_row, past_value}
 use Rattle.twkb_engine.specs.Taking.{IsFree, counted_row, count_role}
 use Rattle.twkb_engine.specs.declared.next_item.NextItem.{NextItem}
 use Rattle.twkb_engine.specs.declared.engine.Engine.{Engine}
@@ -208,42 +208,42 @@ ok_passes : (way : Result Outline Reason) (o : Outline) → IfOk way (λ o. IsPa
 ok_passes (Ok p) o past is = past
 ok_passes (Err why) o past is = absurd cc
 
-module _ (way : Result Outline Reason) (d e : Engine) (rs : List Row) where
-  -- the ends are passed
-  pub lands_passed : (ends : Bool) → IfOk way (λ o. IsPastEnds o.1) → Lands way Nothing d rs (Ok ends) e rs → Passes way
-  lands_passed false past l = ok_passes way _ past l.0
-  lands_passed true past l = ok_passes way _ past l.0
+module _ {S : Type 0} {holds : S → Notes → Type 0} {way : Result Outline Reason} {change : Change} {d e : Engine}
+    {rs more : List Row} {old new : S} where
+  -- where it lands, with what is noted and kept
+  pub goes : {answer : Result Bool Stop} → Lands way change d rs answer e more
+      → IfOk answer (λ ends. NotesGo holds (notes_past d e ends) d old new)
+      → (IsHere d → OnOk answer (IsPlaced e.next e)) → Keeps d e → GoesOn holds way change d rs old answer e more new
+  goes landed noted placed kept = record { landed = landed; noted = noted; placed = placed; kept = kept }
 
-  -- then the rows change
-  pub lands_brought : (change : Change) (more : List Row) (ends : Bool)
-      → Lands way Nothing d rs (Ok ends) e rs → more ≡ applied change rs
-      → Lands way change d rs (Ok ends) e more
-  lands_brought change more false l brought = (l.0, l.1, brought, l.3)
-  lands_brought change more true l brought = (l.0, brought, l.2)
+  -- the ends are passed, and then the rows change
+  pub then_brought : (ends : Bool) → GoesOn holds way Nothing d rs old (Ok ends) e rs new → more ≡ applied change rs
+      → GoesOn holds way change d rs old (Ok ends) e more new
+  then_brought false t brought =
+      let l = t.landed in
+      record { landed = (l.0, l.1, brought, l.3); noted = t.noted; placed = t.placed; kept = t.kept }
+  then_brought true t brought =
+      let l = t.landed in
+      record { landed = (l.0, brought, l.2); noted = t.noted; placed = t.placed; kept = t.kept }
 
-  stop_brought : (change : Change) (more : List Row) (stop : Stop)
-      → Lands way Nothing d rs (Err stop) e rs → Lands way change d rs (Err stop) e more
-  stop_brought change more Memory l = l
-  stop_brought change more (Refused why) l = l
-
-  -- a size is wrong
-  pub lands_stopped : (change : Change) (more : List Row) (r : Result Bool Stop) (stop : Stop)
-      {Q : Stop → Type 0} → IsErrAnd r Q → ((y : Stop) → Q y → y ≡ stop)
-      → Lands way Nothing d rs (Err stop) e rs → Lands way change d rs r e more
-  lands_stopped change more r stop is same l =
+  -- or there is no memory for the change
+  pub then_unkept : {r : Result Bool Stop} (ends : Bool) → IsErrAnd r (λ y. y ≡ Memory)
+      → IfOk way (λ o. IsPastEnds o.1) → GoesOn holds way Nothing d rs old (Ok ends) e rs new
+      → GoesOn holds way change d rs old r e more new
+  then_unkept {r} ends is past t =
       let p = err_from_is_err_and r is in
-      subst (λ (q : Result Bool Stop). Lands way change d rs q e more)
-      (sym (p.1 ∙ ap (λ (s : Stop). let q : Result Bool Stop = Err s in q) (same p.0 p.2)))
-      (stop_brought change more stop l)
+      rw (p.1, p.2) (record { landed = passes ends t.landed; noted = tt; placed = λ here. tt; kept = t.kept })
+    where
+      passes : (b : Bool) → Lands way Nothing d rs (Ok b) e rs → Passes way
+      passes false l = ok_passes way _ past l.0
+      passes true l = ok_passes way _ past l.0
 
-  -- there is no memory for the change
-  pub lands_unkept : (change : Change) (more : List Row) (r : Result Bool Stop) {Q : Stop → Type 0}
-      → IsErrAnd r Q → ((y : Stop) → Q y → y ≡ Memory) → Passes way → Lands way change d rs r e more
-  lands_unkept change more r is same past =
+  -- or a size is wrong
+  pub then_refused : {why : BlobReason} {r : Result Bool Stop} → IsErrAnd r (λ y. y ≡ Refused why)
+      → GoesOn holds way Nothing d rs old (Err (Refused why)) e rs new → GoesOn holds way change d rs old r e more new
+  then_refused {why} {r} is t =
       let p = err_from_is_err_and r is in
-      let none : Lands way change d rs (Err Memory) e more = past in
-      subst (λ (q : Result Bool Stop). Lands way change d rs q e more)
-      (sym (p.1 ∙ ap (λ (s : Stop). let q : Result Bool Stop = Err s in q) (same p.0 p.2))) none
+      rw (p.1, p.2) (record { landed = t.landed; noted = tt; placed = λ here. tt; kept = t.kept })
 
 -- past a value that is done, too
 pub past_shut : (h : machine.Head) (f : BodyForm) (ids : Ids) (n bytes : ℕ) (gs : List FrameOutline)
@@ -270,14 +270,6 @@ none_ended holds s d e w inside still same are held =
       ap (λ (gs : List OpenCollection). length gs) same,
     ) in
     subst (λ (n : ℕ). holds s (note_ends n (d.start + d.bytes) d.points w)) (sym none) held
-
--- its own row, after the end of a geometry without a body
-pub empty_ended : (d e : Engine) (row : Row) (rs more : List Row) (ends : Bool)
-    → ((qs : List Row) → Lands (past_end d) Nothing d qs (Ok ends) e qs)
-    → row ≡ own_of d.head.depth d.head.id (kind_of d.head.kind) d.head.precision → more ≡ rs ++ row ∷ []
-    → Lands (past_end d) (own_row d) d rs (Ok ends) e more
-empty_ended d e row rs more ends ended own pushed = lands_brought (past_end d) d e rs (own_row d) more ends
-    (ended rs) (pushed ∙ ap (λ (r : Row). rs ++ r ∷ []) own)
 
 -- before the body of a geometry
 pub ruleset headings = (header_inside, header_shut)

@@ -1,6 +1,6 @@
 -- Points, members and ids that are complete at the start of the bytes, and the ends of lists.
 use Rattle.std.proofs.Common.{◌≡◌, ℕ, suc, ◌-◌, ◌≤◌, ◌+◌, ◌<◌, List, [], ◌∷◌, ◌++◌, length, take, refl, sym, ap, ◌∙◌}
-use Rattle.std.proofs.Common.{subst, append-nil, arith, true, None, Result, Ok, Err, false, Bool, OnOk, IfOk, zero}
+use Rattle.std.proofs.Common.{subst, append-nil, arith, rules, true, None, Result, Ok, Err, false, Bool, OnOk, IfOk, zero}
 use Rattle.std.proofs.lemmas.List.{length-take-le}
 use Rattle.std.specs.Prelude.{ℤ, if◌then◌else◌, Option, ◌&&◌, nat_eq}
 use Rattle.twkb_points.specs.Point.{Point}
@@ -28,7 +28,7 @@ use Rattle.twkb_engine.specs.Collections.{frames_of}
 use Rattle.twkb_engine.specs.Fits.{lists_of, line_lists_of, has_members, left_fit, lists_fit, IsInside, is_bodied}
 use Rattle.twkb_engine.specs.Fits.{first_item, item_fits, has_lines, has_areas, IsBodyItem}
 use Rattle.twkb_engine.specs.State.{IsPlaced, sums_of, stage_at, ids_in, IsHere, outline_in, body_at}
-use Rattle.twkb_engine.specs.Taking.{Stays, shut_at, last_lists, Lands, Keeps, past_last, point_row, NotesGo}
+use Rattle.twkb_engine.specs.Taking.{Stays, shut_at, last_lists, GoesOn, Keeps, past_last, point_row, NotesGo}
 use Rattle.twkb_engine.specs.Taking.{notes_past, open_in}
 use Rattle.twkb_engine.specs.Standing.{StandsAt, TakesMany, TakesList, notes_at, held_in, IsAlive, FedBy, IsFed}
 use Rattle.twkb_engine.specs.Standing.{IsAnswer, with_used}
@@ -65,17 +65,7 @@ none_listed {rs = rs} {d = d} = record {
   long = omega arith;
   run = λ h f ids outer others listed same.
       stage_none h (in_list h f ids (d.points_left + others) outer) rs d.position;
-  moves = record {
-    bytes = omega arith;
-    nodes = refl;
-    points = refl;
-    collections = refl;
-    head = refl;
-    ids = refl;
-    members_left = refl;
-    rings_left = refl;
-    next = refl;
-  };
+  moves = search (rules, arith);
   memory = tt;
   stays = record { limits = refl; start = refl; held = refl };
 }
@@ -389,32 +379,31 @@ module _ (rs : List Row) (d : Engine) (is : d.next ≡ next.X) (none : held_in d
           (outline_in d) rs s.outlined m.start ∙ sym open_there) (subst (λ x. holds old (told x))
           (sym (ap (λ (g : Fields). g.start) q)) known)
 
-      fed : e.limits ≡ m.limits → held_in e ≡ [] → (answer : Result Bool Stop)
-          → Lands (past_last m) change m base answer e more
-          → IfOk answer (λ ends. NotesGo holds (notes_past m e ends) m old new)
-          → OnOk answer (IsPlaced e.next e) → IsFed holds Known m.limits m.start bs rest
-          (with_used used answer) more e new
-      fed limits empty (Ok false) l go placed =
-          past_on reads holds Known m.start more e new l.0 l.1 limits l.3.start l.2 placed empty
-          (kept false go)
-      fed limits empty (Ok true) l go placed =
-          past_blob reads holds Known m.start more e new l.0 l.2 l.1 empty (kept true go)
-      fed limits empty (Err Memory) l go placed = past_judged reads l
-      fed limits empty (Err (Refused why)) l go placed = past_wrong reads e.bytes (reason_of why)
-          l.0 l.1
+      empty : Keeps m e → held_in e ≡ []
+      empty keeps = keeps.held ∙ (ap (λ (g : Fields). g.held) q ∙ none)
+
+      placed_there : IsHere m
+      placed_there = place_at d m (ap (λ (g : Fields). g.collections) q) (ap (λ (g : Fields). g.head) q)
+          (subst (λ i. IsPlaced i d) is s.placed)
+
+      fed : (answer : Result Bool Stop) → GoesOn holds (past_last m) change m base old answer e more new
+          → IsFed holds Known m.limits m.start bs rest (with_used used answer) more e new
+      fed (Ok false) t =
+          let l = t.landed in
+          past_on reads holds Known m.start more e new l.0 l.1 t.kept.limits l.3.start l.2
+          (t.placed placed_there) (empty t.kept) (kept false t.noted)
+      fed (Ok true) t =
+          let l = t.landed in
+          past_blob reads holds Known m.start more e new l.0 l.2 l.1 (empty t.kept) (kept true t.noted)
+      fed (Err Memory) t = past_judged reads t.landed
+      fed (Err (Refused why)) t = past_wrong reads e.bytes (reason_of why) t.landed.0 t.landed.1
 
     -- the answer past the ends is the answer to the piece
-    pub ended_fed : (answer : Result Bool Stop) → e.limits ≡ m.limits → e.held ≡ m.held
-        → Lands (past_last m) change m base answer e more
-        → IfOk answer (λ ends. NotesGo holds (notes_past m e ends) m old new)
-        → (IsHere m → OnOk answer (IsPlaced e.next e))
+    pub ended_fed : (answer : Result Bool Stop) → GoesOn holds (past_last m) change m base old answer e more new
         → FedBy holds d rs old rest (with_used used answer) e more new
-    ended_fed answer limits held lands go placed = λ bs s.
+    ended_fed answer t = λ bs s.
         subst (λ (g : Fields). IsFed holds (holds old (notes_at s)) g.limits g.start bs rest
-        (with_used used answer) more e new) q
-        (fed bs s limits (held ∙ (ap (λ (g : Fields). g.held) q ∙ none)) answer lands go
-        (placed (place_at d m (ap (λ (g : Fields). g.collections) q) (ap (λ (g : Fields). g.head) q)
-        (subst (λ i. IsPlaced i d) is s.placed))))
+        (with_used used answer) more e new) q (fed bs s answer t)
 
 module _ (rs : List Row) (d : Engine) (is : d.next ≡ next.X) (last : d.points_left ≡ 0) where
   here : outline_in d ≡ (frames_of d.collections, body_at d (Wanted 0 (last_lists d)))
@@ -458,38 +447,33 @@ module _ (rs : List Row) (d : Engine) (is : d.next ≡ next.X) (last : d.points_
         (last_lists d) rs told (take used rest) to stood cut.pair)
 
     -- the answer to it is the answer to the piece
-    pub point_fed : {S : Type 0} (holds : S → Notes → Type 0) (m e : Engine) (more : List Row)
-        (old new : S) → fields_of m ≡ moved_to d used to d.ids d.members_left d.points_left
-        → held_in d ≡ [] → (answer : Result Bool Stop) → Keeps m e
-        → Lands (past_last m) (point_row to m) m rs answer e more
-        → IfOk answer (λ ends. NotesGo holds (notes_past m e ends) m old new)
-        → (IsHere m → OnOk answer (IsPlaced e.next e))
+    pub point_fed : {S : Type 0} {holds : S → Notes → Type 0} {m e : Engine} {more : List Row} {old new : S}
+        (answer : Result Bool Stop) → GoesOn holds (past_last m) (point_row to m) m rs old answer e more new
+        → fields_of m ≡ moved_to d used to d.ids d.members_left d.points_left → held_in d ≡ []
         → IsAnswer holds d rs old rest (with_used used answer) e more new
-    point_fed holds m e more old new q none answer kept lands go placed = record {
-      limits = kept.limits ∙ ap (λ (g : Fields). g.limits) q;
+    point_fed {holds = holds} {m = m} {e = e} {more = more} {old = old} {new = new} answer t q none = record {
+      limits = t.kept.limits ∙ ap (λ (g : Fields). g.limits) q;
       fed =
           let same : point_row to m ≡ point_row to d = ap (λ (g : Fields). brought to g.head g.ids) q in
           ended_fed rs d is none rest to used cut.some cut.within rs (point_row to d) point_read holds m e
-          more old new d.points_left q answer kept.limits kept.held
-          (subst (λ c. Lands (past_last m) c m rs answer e more) same lands) go placed;
+          more old new d.points_left q answer
+          (subst (λ c. GoesOn holds (past_last m) c m rs old answer e more new) same t);
     }
 
 -- all points of the open list were taken, and the ends after them are passed
 pub line_fed : {E : Type 0} (rs base : List Row) (d m e : Engine) (is : d.next ≡ next.X)
     → 0 < d.points_left → held_in d ≡ [] → {rest : List ℕ} {used : ℕ}
     → TakesList {E = E} rs d rest (Ok used) base m → m.points_left ≡ 0
-    → {S : Type 0} (holds : S → Notes → Type 0) (old new : S) (answer : Result Bool Stop)
-    → Keeps m e → Lands (past_last m) Nothing m base answer e base
-    → IfOk answer (λ ends. NotesGo holds (notes_past m e ends) m old new)
-    → (IsHere m → OnOk answer (IsPlaced e.next e))
+    → {S : Type 0} {holds : S → Notes → Type 0} {old new : S} (answer : Result Bool Stop)
+    → GoesOn holds (past_last m) Nothing m base old answer e base new
     → IsAnswer holds d rs old rest (with_used used answer) e base new
-line_fed rs base d m e is some none {rest} {used} t last holds old new answer kept lands go placed = record {
-  limits = kept.limits ∙ t.stays.limits;
+line_fed rs base d m e is some none {rest} {used} t last {S} {holds} {old} {new} answer goes = record {
+  limits = goes.kept.limits ∙ t.stays.limits;
   fed =
       let taken : 0 < used = omega (arith, some, t.long, last) in
       ended_fed rs d is none rest m.position used taken t.within base Nothing
       (list_read rs d is some none base used m.points_left m.position rest last t.run) holds m e base
-      old new m.points_left (moved_fields t.stays t.moves) answer kept.limits kept.held lands go placed;
+      old new m.points_left (moved_fields t.stays t.moves) answer goes;
 }
 
 -- ==== The ends of lists in a body.

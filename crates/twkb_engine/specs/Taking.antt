@@ -1,6 +1,6 @@
 -- What an engine makes of the next item, and what it notes of spans.
 use Rattle.std.specs.Prelude.{◌≡◌, ◌+◌, ◌⊎◌, ℕ, List, [], Bool, true, false, Some, None, Result, Ok, Err, length}
-use Rattle.std.specs.Prelude.{if◌then◌else◌, ◌/◌, get_or}
+use Rattle.std.specs.Prelude.{if◌then◌else◌, ◌/◌, get_or, IfOk, OnOk}
 use Rattle.twkb_points.specs.Point.{Point, origin}
 use Rattle.twkb_tree.specs.Rows.{Row, first_id}
 use Rattle.twkb_grammar.specs.Bits.{bit}
@@ -12,7 +12,7 @@ use Rattle.twkb_body.specs.Outline.{Outline, OnFinished, Stage, OnEnd, options, 
 use Rattle.twkb_body.specs.Growing.{Change, NewRow, Nothing, change_of, applied, own_of, header_change, point_change}
 use Rattle.twkb_body.specs.HeaderParts.{Passes}
 use Rattle.twkb_body.specs.Header.{head_of, kind_of, form_of, many_of}
-use Rattle.twkb_engine.specs.State.{sums_of, outline_in, ids_in}
+use Rattle.twkb_engine.specs.State.{sums_of, outline_in, ids_in, IsPlaced, IsHere}
 use Rattle.twkb_engine.specs.Collections.{frames_of}
 use Rattle.twkb_engine.specs.Fits.{lists_of}
 use Rattle.twkb_engine.specs.Stops.{Stop, reason_of}
@@ -204,3 +204,23 @@ point_span start bytes = record {
   length = length bytes;
   points = 1;
 }
+
+-- ==== The answer to an item, with what it notes.
+
+-- What an engine makes of its next item, of this role, number and width: its answer, and what is noted of the
+-- item and of the ends after it. The header stays in its place, and the engine keeps what it keeps at each item.
+pub record TakesItem {S : Type 0} (holds : S → Notes → Type 0) (r : Role) (n width : ℕ) (d : Engine)
+    (rs : List Row) (old : S) (answer : Result Bool Stop) (e : Engine) (more : List Row) (new : S) : Type 0 where
+  pub taken : Takes r n width d rs answer e more
+  pub noted : IfOk answer (λ ends. NotesGo holds (notes_with r n width d e ends) d old new)
+  pub placed : IsPlaced d.next d → OnOk answer (IsPlaced e.next e)
+  pub kept : Keeps d e
+
+-- The same of an engine from which this way leads on, with this change of the rows.
+pub record GoesOn {S : Type 0} (holds : S → Notes → Type 0) (way : Result Outline Reason) (change : Change)
+    (d : Engine) (rs : List Row) (old : S) (answer : Result Bool Stop) (e : Engine) (more : List Row)
+    (new : S) : Type 0 where
+  pub landed : Lands way change d rs answer e more
+  pub noted : IfOk answer (λ ends. NotesGo holds (notes_past d e ends) d old new)
+  pub placed : IsHere d → OnOk answer (IsPlaced e.next e)
+  pub kept : Keeps d e

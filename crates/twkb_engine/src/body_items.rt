@@ -27,8 +27,8 @@ impl Engine {
     ghost use Rattle.twkb_engine.specs.State.{IsPlaced, IsHere, outline_in, sums_of};
     ghost use Rattle.twkb_engine.specs.Caps.{place_cap};
     ghost use Rattle.twkb_engine.specs.Fits.{are_shut, IsInside, IsBodyItem};
-    ghost use Rattle.twkb_engine.specs.Taking.{Takes, Lands, IsFree, SameBlob, Keeps, past_end, past_last, point_row};
-    ghost use Rattle.twkb_engine.specs.Taking.{judged_as, NotesGo, notes_with, notes_past, open_in};
+    ghost use Rattle.twkb_engine.specs.Taking.{Takes, TakesItem, GoesOn, IsFree, Keeps, Stays, past_end, past_last};
+    ghost use Rattle.twkb_engine.specs.Taking.{point_row, judged_as, open_in};
     ghost use Rattle.twkb_engine.specs.Standing.{ComesNext};
 
     // Takes an x: moves the position by the step that the number spells in zigzag form; the y comes
@@ -82,11 +82,8 @@ impl Engine {
         width: u64,
     ) -> Result<bool, Stop>
         requires { ComesNext next.Y flat.old self.old number width }
-        ensures taken { Takes role.Y number width self.old flat.old result self.new flat.new }
-        ensures noted { IfOk result (λ ends. NotesGo S.holds
-            (notes_with role.Y number width self.old self.new ends) self.old spans.old spans.new) }
-        ensures placed { IsPlaced self.old.next self.old → OnOk result (IsPlaced self.new.next self.new) }
-        ensures kept { Keeps self.old self.new }
+        ensures { TakesItem S.holds role.Y number width self.old flat.old spans.old result self.new flat.new
+            spans.new }
     {
         let Some(position) = self.moved_y(number) else {
             return Err(Stop::Refused(BlobReason::CoordinateRange));
@@ -117,12 +114,8 @@ impl Engine {
         requires last { self.old.points_left ≡ 0 }
         requires body { IsBodyItem self.old.next }
         requires may { Admits (point_row position self.old) flat.old }
-        ensures shut { Lands (past_last self.old) (point_row position self.old) self.old flat.old
-            result self.new flat.new }
-        ensures noted { IfOk result (λ ends. NotesGo S.holds (notes_past self.old self.new ends)
-            self.old spans.old spans.new) }
-        ensures placed { IsHere self.old → OnOk result (IsPlaced self.new.next self.new) }
-        ensures kept { Keeps self.old self.new }
+        ensures { GoesOn S.holds (past_last self.old) (point_row position self.old) self.old flat.old spans.old
+            result self.new flat.new spans.new }
     {
         let member = self.ids.first();
         let ends = self.end_list_or_point(spans)?;
@@ -143,12 +136,8 @@ impl Engine {
         width: u64,
     ) -> Result<bool, Stop>
         requires { ComesNext next.PointCount flat.old self.old count width }
-        ensures taken { Takes (role.Count (listed 0)) count width self.old flat.old result self.new flat.new }
-        ensures noted { IfOk result (λ ends. NotesGo S.holds
-            (notes_with (role.Count (listed 0)) count width self.old self.new ends) self.old
-            spans.old spans.new) }
-        ensures placed { IsPlaced self.old.next self.old → OnOk result (IsPlaced self.new.next self.new) }
-        ensures kept { Keeps self.old self.new }
+        ensures { TakesItem S.holds (role.Count (listed 0)) count width self.old flat.old spans.old result self.new
+            flat.new spans.new }
     {
         if let Some(reason) = self.too_many(0, count) {
             return Err(Stop::Refused(reason));
@@ -178,12 +167,8 @@ impl Engine {
         width: u64,
     ) -> Result<bool, Stop>
         requires { ComesNext next.RingCount flat.old self.old count width }
-        ensures taken { Takes (role.Count (listed 1)) count width self.old flat.old result self.new flat.new }
-        ensures noted { IfOk result (λ ends. NotesGo S.holds
-            (notes_with (role.Count (listed 1)) count width self.old self.new ends) self.old
-            spans.old spans.new) }
-        ensures placed { IsPlaced self.old.next self.old → OnOk result (IsPlaced self.new.next self.new) }
-        ensures kept { Keeps self.old self.new }
+        ensures { TakesItem S.holds (role.Count (listed 1)) count width self.old flat.old spans.old result self.new
+            flat.new spans.new }
     {
         if let Some(reason) = self.too_many(count, 0) {
             return Err(Stop::Refused(reason));
@@ -212,12 +197,8 @@ impl Engine {
         requires last { self.old.points_left ≡ 0 }
         requires body { IsBodyItem self.old.next }
         requires may { Admits (NewRow (row_with row [])) flat.old }
-        ensures shut { Lands (past_last self.old) (NewRow (row_with row [])) self.old flat.old
-            result self.new flat.new }
-        ensures noted { IfOk result (λ ends. NotesGo S.holds (notes_past self.old self.new ends)
-            self.old spans.old spans.new) }
-        ensures placed { IsHere self.old → OnOk result (IsPlaced self.new.next self.new) }
-        ensures kept { Keeps self.old self.new }
+        ensures { GoesOn S.holds (past_last self.old) (NewRow (row_with row [])) self.old flat.old spans.old
+            result self.new flat.new spans.new }
     {
         let ends = self.end_list_or_point(spans)?;
         push_row(flat, row)?;
@@ -232,13 +213,9 @@ impl Engine {
     fn end_list_or_point<S: SpanNotes>(&mut self, spans: &mut S) -> Result<bool, Inexact>
         requires last { self.old.points_left ≡ 0 }
         requires body { IsBodyItem self.old.next }
-        ensures ended { (rs : List TableRow) → Lands (past_last self.old) Nothing self.old rs
-            (judged_as result) self.new rs }
-        ensures noted { IfOk result (λ ends. NotesGo S.holds (notes_past self.old self.new ends)
-            self.old spans.old spans.new) }
+        ensures ended { (rs : List TableRow) → GoesOn S.holds (past_last self.old) Nothing self.old rs spans.old
+            (judged_as result) self.new rs spans.new }
         ensures head { self.new.head ≡ self.old.head }
-        ensures placed { IsHere self.old → OnOk result (IsPlaced self.new.next self.new) }
-        ensures kept { Keeps self.old self.new }
     {
         if self.ends_with_list() {
             return self.end_geometry(spans);
@@ -253,12 +230,8 @@ impl Engine {
     pub(crate) fn end_points<S: SpanNotes>(&mut self, spans: &mut S) -> Result<bool, Inexact>
         requires last { self.old.points_left ≡ 0 }
         requires body { IsBodyItem self.old.next }
-        ensures ended { (rs : List TableRow) → Lands (past_last self.old) Nothing self.old rs
-            (judged_as result) self.new rs }
-        ensures noted { IfOk result (λ ends. NotesGo S.holds (notes_past self.old self.new ends)
-            self.old spans.old spans.new) }
-        ensures placed { IsHere self.old → OnOk result (IsPlaced self.new.next self.new) }
-        ensures kept { Keeps self.old self.new }
+        ensures { (rs : List TableRow) → GoesOn S.holds (past_last self.old) Nothing self.old rs spans.old
+            (judged_as result) self.new rs spans.new }
     {
         self.end_list_or_point(spans)
     }
@@ -283,12 +256,11 @@ impl Engine {
         requires left { self.old.rings_left + self.old.members_left ≢ 0 }
         ensures step { past_last self.old ≡ Ok (outline_in self.new) }
         ensures sums { sums_of self.new ≡ sums_of self.old }
-        ensures blob { SameBlob self.old self.new }
         ensures head { self.new.head ≡ self.old.head }
         ensures same { self.new.collections ≡ self.old.collections }
         ensures inside { IsInside self.new.next }
         ensures placed { IsHere self.old → IsPlaced self.new.next self.new }
-        ensures kept { Keeps self.old self.new }
+        ensures stays { Stays self.old self.new }
     {
         if self.rings_left > 0 {
             self.rings_left -= 1;

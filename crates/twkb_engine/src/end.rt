@@ -43,9 +43,8 @@ impl From<Inexact> for Stop {
 }
 
 impl Engine {
-    ghost use Rattle.twkb_engine.specs.State.{IsPlaced};
     ghost use Rattle.twkb_engine.specs.Fits.{are_shut, IsInside, IsHeaderItem};
-    ghost use Rattle.twkb_engine.specs.Taking.{Lands, Keeps, past_end, own_row, judged_as, NotesGo, notes_past};
+    ghost use Rattle.twkb_engine.specs.Taking.{GoesOn, past_end, own_row, judged_as};
 
     // Ends the geometry that is read, of which nothing may be left, and each collection whose last
     // member ends with it, the innermost first, and notes the ends of their spans. Returns true if
@@ -54,14 +53,10 @@ impl Engine {
     pub(crate) fn end_geometry<S: SpanNotes>(&mut self, spans: &mut S) -> Result<bool, Inexact>
         requires shut { are_shut self.old.points_left self.old.rings_left self.old.members_left ≡ true }
         requires inside { IsInside self.old.next }
-        ensures ended { (rs : List Row) → Lands (past_end self.old) Nothing self.old rs
-            (judged_as result) self.new rs }
-        ensures noted { IfOk result (λ ends. NotesGo S.holds (notes_past self.old self.new ends)
-            self.old spans.old spans.new) }
+        ensures ended { (rs : List Row) → GoesOn S.holds (past_end self.old) Nothing self.old rs spans.old
+            (judged_as result) self.new rs spans.new }
         ensures judged { OnOk result (Passes (past_end self.old)) }
         ensures head { self.new.head ≡ self.old.head }
-        ensures placed { OnOk result (IsPlaced self.new.next self.new) }
-        ensures kept { Keeps self.old self.new }
     {
         let mut head = self.head;
         loop {
@@ -94,11 +89,8 @@ impl Engine {
     ) -> Result<bool, Stop>
         requires header { IsHeaderItem self.old.next }
         requires row { Admits (own_row self.old) flat.old }
-        ensures ended { Lands (past_end self.old) (own_row self.old) self.old flat.old result self.new flat.new }
-        ensures noted { IfOk result (λ ends. NotesGo S.holds (notes_past self.old self.new ends)
-            self.old spans.old spans.new) }
-        ensures placed { OnOk result (IsPlaced self.new.next self.new) }
-        ensures kept { Keeps self.old self.new }
+        ensures { GoesOn S.holds (past_end self.old) (own_row self.old) self.old flat.old spans.old result self.new
+            flat.new spans.new }
     {
         let row = own_row(&self.head);
         let ends = self.end_geometry(spans)?;

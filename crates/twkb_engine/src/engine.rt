@@ -52,9 +52,9 @@ pub struct Engine {
 }
 
 impl Engine {
-    ghost use Rattle.twkb_engine.specs.State.{IsPlaced, IsNext, allowance_of};
+    ghost use Rattle.twkb_engine.specs.State.{IsNext, allowance_of};
     ghost use Rattle.twkb_engine.specs.Fits.{IsByte, are_shut};
-    ghost use Rattle.twkb_engine.specs.Taking.{Takes, BeginsAt, Keeps, NotesGo, notes_with, open_in};
+    ghost use Rattle.twkb_engine.specs.Taking.{TakesItem, BeginsAt, Keeps, open_in};
     ghost use Rattle.twkb_engine.specs.Standing.{StandsAt, IsAlive, IsEnd, count_of, held_in, offset_in, place_in};
 
     /// Makes an engine that has read nothing, for the blobs of a stream from this offset on, which
@@ -117,12 +117,8 @@ impl Engine {
         requires byte { IsByte self.old.next → (number < 256) × (width ≡ 1) }
         requires room { self.old.start + (self.old.bytes + width) ≤ place_cap }
         requires alive { IsAlive flat.old self.old }
-        ensures taken { (r : Role) → IsNext r self.old
-            → Takes r number width self.old flat.old result self.new flat.new }
-        ensures noted { (r : Role) → IsNext r self.old → IfOk result (λ ends. NotesGo S.holds
-            (notes_with r number width self.old self.new ends) self.old spans.old spans.new) }
-        ensures placed { IsPlaced self.old.next self.old → OnOk result (IsPlaced self.new.next self.new) }
-        ensures kept { Keeps self.old self.new }
+        ensures { (r : Role) → IsNext r self.old → TakesItem S.holds r number width self.old
+            flat.old spans.old result self.new flat.new spans.new }
     {
         match self.next {
             NextItem::TypeByte => self.type_byte(spans, number),

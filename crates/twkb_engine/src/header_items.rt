@@ -30,12 +30,11 @@ use twkb_tree::Kind;
 const BOX_REST: u8 = 3;
 
 impl Engine {
-    ghost use Rattle.twkb_engine.specs.State.{IsPlaced, IsHere, outline_in, sums_of, size_roles, box_roles};
+    ghost use Rattle.twkb_engine.specs.State.{IsHere, outline_in, sums_of, size_roles, box_roles};
     ghost use Rattle.twkb_engine.specs.Collections.{frames_of};
     ghost use Rattle.twkb_engine.specs.Caps.{place_cap};
     ghost use Rattle.twkb_engine.specs.Fits.{IsHeaderItem, are_shut, is_typed};
-    ghost use Rattle.twkb_engine.specs.Taking.{Takes, Lands, SameBlob, SameBut, Keeps, past_parts, header_row};
-    ghost use Rattle.twkb_engine.specs.Taking.{NotesGo, notes_with, notes_past};
+    ghost use Rattle.twkb_engine.specs.Taking.{TakesItem, GoesOn, SameBut, Stays, past_parts, header_row, NotesGo};
     ghost use Rattle.twkb_engine.specs.Standing.{IsAlive, ComesNext};
 
     // Begins a geometry at its type byte, which must come next: keeps kind and precision, puts the
@@ -109,11 +108,8 @@ impl Engine {
         requires byte { number < 256 }
         requires next { self.old.next ≡ next.TypeByte }
         requires room { self.old.start + self.old.bytes < place_cap }
-        ensures taken { (rs : List Row) → Takes role.Header number 1 self.old rs result self.new rs }
-        ensures noted { IfOk result (λ ends. NotesGo S.holds
-            (notes_with role.Header number 1 self.old self.new ends) self.old spans.old spans.new) }
-        ensures placed { IsPlaced self.old.next self.old → OnOk result (IsPlaced self.new.next self.new) }
-        ensures kept { Keeps self.old self.new }
+        ensures { (rs : List Row) → TakesItem S.holds role.Header number 1 self.old rs spans.old result self.new rs
+            spans.new }
     {
         let byte = TypeByte::from_number(number);
         if !byte.names_type() {
@@ -138,13 +134,8 @@ impl Engine {
     ) -> Result<bool, Stop>
         requires byte { number < 256 }
         requires comes { ComesNext next.MetadataByte flat.old self.old number 1 }
-        ensures taken { Takes (role.Metadata (kind_number (kind_of self.old.head.kind))) number 1
-            self.old flat.old result self.new flat.new }
-        ensures noted { IfOk result (λ ends. NotesGo S.holds
-            (notes_with (role.Metadata (kind_number (kind_of self.old.head.kind))) number 1 self.old
-            self.new ends) self.old spans.old spans.new) }
-        ensures placed { IsPlaced self.old.next self.old → OnOk result (IsPlaced self.new.next self.new) }
-        ensures kept { Keeps self.old self.new }
+        ensures { TakesItem S.holds (role.Metadata (kind_number (kind_of self.old.head.kind))) number 1 self.old
+            flat.old spans.old result self.new flat.new spans.new }
     {
         let metadata = Metadata::from_number(number);
         let points = u64::from(self.announces_point(self.head.kind, metadata));
@@ -173,12 +164,8 @@ impl Engine {
     ) -> Result<bool, Stop>
         requires byte { number < 256 }
         requires comes { ComesNext next.ExtendedByte flat.old self.old number 1 }
-        ensures taken { Takes role.Extended number 1 self.old flat.old result self.new flat.new }
-        ensures noted { IfOk result (λ ends. NotesGo S.holds
-            (notes_with role.Extended number 1 self.old self.new ends) self.old spans.old
-            spans.new) }
-        ensures placed { IsPlaced self.old.next self.old → OnOk result (IsPlaced self.new.next self.new) }
-        ensures kept { Keeps self.old self.new }
+        ensures { TakesItem S.holds role.Extended number 1 self.old flat.old spans.old result self.new flat.new
+            spans.new }
     {
         if number % 4 != 0 {
             return Err(Stop::Refused(BlobReason::ExtraDimensions));
@@ -200,12 +187,8 @@ impl Engine {
         width: u64,
     ) -> Result<bool, Stop>
         requires { ComesNext next.Size flat.old self.old number width }
-        ensures taken { Takes role.Size number width self.old flat.old result self.new flat.new }
-        ensures noted { IfOk result (λ ends. NotesGo S.holds
-            (notes_with role.Size number width self.old self.new ends) self.old spans.old
-            spans.new) }
-        ensures placed { IsPlaced self.old.next self.old → OnOk result (IsPlaced self.new.next self.new) }
-        ensures kept { Keeps self.old self.new }
+        ensures { TakesItem S.holds role.Size number width self.old flat.old spans.old result self.new flat.new
+            spans.new }
     {
         self.bytes += width;
         self.head.size = Some(number);
@@ -228,12 +211,8 @@ impl Engine {
         requires next { self.old.next ≡ next.BoxNumber left }
         requires room { self.old.start + (self.old.bytes + width) ≤ place_cap }
         requires alive { IsAlive flat.old self.old }
-        ensures taken { (number : ℕ) → Takes role.Box number width self.old flat.old result self.new flat.new }
-        ensures noted { (number : ℕ)
-            → IfOk result (λ ends. NotesGo S.holds (notes_with role.Box number width self.old
-            self.new ends) self.old spans.old spans.new) }
-        ensures placed { IsPlaced self.old.next self.old → OnOk result (IsPlaced self.new.next self.new) }
-        ensures kept { Keeps self.old self.new }
+        ensures { (number : ℕ) → TakesItem S.holds role.Box number width self.old flat.old spans.old result self.new
+            flat.new spans.new }
     {
         self.bytes += width;
         if left > 0 {
@@ -256,13 +235,9 @@ impl Engine {
         requires same { metadata ≡ self.old.head.metadata }
         requires header { IsHeaderItem self.old.next }
         requires may { Admits (header_row self.old (size_roles self.old.head.metadata)) flat.old }
-        ensures landed { Lands (past_parts self.old (size_roles self.old.head.metadata))
-            (header_row self.old (size_roles self.old.head.metadata)) self.old flat.old result
-            self.new flat.new }
-        ensures noted { IfOk result (λ ends. NotesGo S.holds (notes_past self.old self.new ends)
-            self.old spans.old spans.new) }
-        ensures placed { IsHere self.old → OnOk result (IsPlaced self.new.next self.new) }
-        ensures kept { Keeps self.old self.new }
+        ensures { GoesOn S.holds (past_parts self.old (size_roles self.old.head.metadata))
+            (header_row self.old (size_roles self.old.head.metadata)) self.old flat.old spans.old
+            result self.new flat.new spans.new }
     {
         if metadata.has_size() {
             self.next = NextItem::Size;
@@ -284,13 +259,9 @@ impl Engine {
         requires same { metadata ≡ self.old.head.metadata }
         requires header { IsHeaderItem self.old.next }
         requires may { Admits (header_row self.old (box_roles self.old.head.metadata)) flat.old }
-        ensures landed { Lands (past_parts self.old (box_roles self.old.head.metadata))
-            (header_row self.old (box_roles self.old.head.metadata)) self.old flat.old result
-            self.new flat.new }
-        ensures noted { IfOk result (λ ends. NotesGo S.holds (notes_past self.old self.new ends)
-            self.old spans.old spans.new) }
-        ensures placed { IsHere self.old → OnOk result (IsPlaced self.new.next self.new) }
-        ensures kept { Keeps self.old self.new }
+        ensures { GoesOn S.holds (past_parts self.old (box_roles self.old.head.metadata))
+            (header_row self.old (box_roles self.old.head.metadata)) self.old flat.old spans.old
+            result self.new flat.new spans.new }
     {
         if metadata.has_box() {
             self.next = NextItem::BoxNumber { left: BOX_REST };
@@ -306,12 +277,8 @@ impl Engine {
     fn begin_body<S: SpanNotes>(&mut self, flat: &mut Flat, spans: &mut S) -> Result<bool, Stop>
         requires header { IsHeaderItem self.old.next }
         requires may { Admits (header_row self.old []) flat.old }
-        ensures landed { Lands (past_parts self.old []) (header_row self.old []) self.old flat.old
-            result self.new flat.new }
-        ensures noted { IfOk result (λ ends. NotesGo S.holds (notes_past self.old self.new ends)
-            self.old spans.old spans.new) }
-        ensures placed { IsHere self.old → OnOk result (IsPlaced self.new.next self.new) }
-        ensures kept { Keeps self.old self.new }
+        ensures { GoesOn S.holds (past_parts self.old []) (header_row self.old []) self.old flat.old spans.old
+            result self.new flat.new spans.new }
     {
         if Metadata::from_byte(self.head.metadata).is_empty() {
             return self.end_empty(flat, spans);
@@ -334,8 +301,7 @@ impl Engine {
         ensures head { self.new.head ≡ self.old.head }
         ensures collections { self.new.collections ≡ self.old.collections }
         ensures sums { sums_of self.new ≡ sums_of self.old }
-        ensures same { SameBlob self.old self.new }
-        ensures kept { Keeps self.old self.new }
+        ensures stays { Stays self.old self.new }
     {
         self.next = NextItem::after_header(self.head.kind);
     }

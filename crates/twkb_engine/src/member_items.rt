@@ -42,8 +42,8 @@ impl Engine {
     ghost use Rattle.twkb_engine.specs.State.{IsPlaced, outline_in, sums_of};
     ghost use Rattle.twkb_engine.specs.Collections.{frames_of};
     ghost use Rattle.twkb_engine.specs.Caps.{depth_cap};
-    ghost use Rattle.twkb_engine.specs.Taking.{Takes, SameBlob, Keeps, own_row, counted_row, count_role, NotesGo};
-    ghost use Rattle.twkb_engine.specs.Taking.{notes_with, open_in};
+    ghost use Rattle.twkb_engine.specs.Taking.{Takes, TakesItem, Keeps, Stays, own_row, counted_row, count_role};
+    ghost use Rattle.twkb_engine.specs.Taking.{open_in};
     ghost use Rattle.twkb_engine.specs.Standing.{ComesNext};
 
     // Why the limits leave no room for `nodes` more rows, or else for `points` more points; `None`
@@ -104,11 +104,8 @@ impl Engine {
         width: u64,
     ) -> Result<bool, Stop>
         requires { ComesNext next.MemberCount flat.old self.old count width }
-        ensures taken { Takes (count_role self.old) count width self.old flat.old result self.new flat.new }
-        ensures noted { IfOk result (λ ends. NotesGo S.holds
-            (notes_with (count_role self.old) count width self.old self.new ends) self.old spans.old spans.new) }
-        ensures placed { IsPlaced self.old.next self.old → OnOk result (IsPlaced self.new.next self.new) }
-        ensures kept { Keeps self.old self.new }
+        ensures { TakesItem S.holds (count_role self.old) count width self.old flat.old spans.old result self.new
+            flat.new spans.new }
     {
         let points = self.member_points(count);
         if let Some(reason) = self.too_many_members(count, points) {
@@ -137,9 +134,8 @@ impl Engine {
             (head_of self.old.head) (frames_of self.old.collections) count) }
         ensures rows { OnOk result (flat.new ≡ applied (counted_row self.old) flat.old) }
         ensures sums { sums_of self.new ≡ sums_of self.old }
-        ensures same { SameBlob self.old self.new }
         ensures placed { IsPlaced self.old.next self.old → OnOk result (IsPlaced self.new.next self.new) }
-        ensures kept { Keeps self.old self.new }
+        ensures stays { Stays self.old self.new }
     {
         let has_ids = Metadata::from_byte(self.head.metadata).has_ids();
         self.ids.restart(has_ids);
@@ -186,9 +182,8 @@ impl Engine {
             (suc self.old.members_left)) }
         ensures rows { OnOk result (flat.new ≡ applied (own_row self.old) flat.old) }
         ensures sums { sums_of self.new ≡ sums_of self.old }
-        ensures same { SameBlob self.old self.new }
         ensures placed { IsPlaced next.MemberCount self.old → OnOk result (IsPlaced self.new.next self.new) }
-        ensures kept { Keeps self.old self.new }
+        ensures stays { Stays self.old self.new }
     {
         push_row(flat, own_row(&self.head))?;
         if self.head.kind == Kind::Collection {

@@ -1,4 +1,4 @@
-use Rattle.std.proofs.Common.{◌≡◌, ◌∙◌, ℕ, List, [], refl, sym, ap, arith}
+use Rattle.std.proofs.Common.{rules, ◌≡◌, ◌∙◌, ℕ, List, [], refl, sym, ap, arith}
 use Rattle.twkb_tree.specs.Rows.{Row}
 use Rattle.twkb_grammar.specs.Roles as role
 use Rattle.twkb_body.specs.Outline.{options}
@@ -7,7 +7,7 @@ use Rattle.twkb_engine.specs.Standing.{IsAlive}
 use Rattle.twkb_engine.specs.Taking.{header_row}
 use Rattle.twkb_engine.specs.declared.next_item.NextItem.TheVariants as next
 use Rattle.twkb_engine.specs.declared.engine.Engine.{Engine}
-use Rattle.twkb_engine.proofs.Items.{alive_placed, Leads, past_with, given_leads, number_leads, takes}
+use Rattle.twkb_engine.proofs.Items.{alive_placed, Leads, past_with, given_leads, number_leads, takes, took}
 use Rattle.twkb_engine.proofs.Parts.{sums_as, add_zero}
 use Rattle.twkb_engine.proofs.engine.Engine.box_number.Goals as goal
 
@@ -25,9 +25,9 @@ begin_body-requires-clause-may g c =
     let last : c.args.left ≡ 0 = omega (arith, c.if-left-gt0.false) in
     (last_leads c.requires.alive (c.requires.next ∙ ap next.BoxNumber last) 0 0).admits
 
-pub returns-clause-taken : goal.returns-clause-taken
-returns-clause-taken g c = λ number.
+pub returns : goal.returns
+returns g c = λ number.
     let last : c.args.left ≡ 0 = omega (arith, c.if-left-gt0.false) in
-    takes (last_leads c.requires.alive (c.requires.next ∙ ap next.BoxNumber last) number
-    c.args.width)
-    _ _ _ _ (sums_as refl refl (add_zero _) (add_zero _)) refl refl c.begin_body.ensures.landed
+    took (takes (last_leads c.requires.alive (c.requires.next ∙ ap next.BoxNumber last) number c.args.width)
+    _ _ _ _ (sums_as refl refl (add_zero _) (add_zero _)) refl refl c.begin_body.ensures.landed)
+    (search rules) (search rules) (search rules)

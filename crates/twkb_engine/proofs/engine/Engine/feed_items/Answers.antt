@@ -11,8 +11,7 @@ take_some-requires-clause-ready g c = ready_left c.loop-used.invariant.answer c.
 
 pub returns-in_err-count-clause-answer : goal.returns-in_err-count-clause-answer
 returns-in_err-count-clause-answer g c =
-    same_stop c.from_residual.result c.from_residual.ensures.1 (λ y same. same)
-    (joined c.loop-used.invariant.answer c.in_err-count.ensures.answer)
+    same_stop c.from_residual.ensures.1 (joined c.loop-used.invariant.answer c.in_err-count.ensures.answer)
 
 pub overflow_add-used : goal.overflow_add-used
 overflow_add-used g c =

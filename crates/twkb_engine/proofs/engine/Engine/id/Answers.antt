@@ -37,7 +37,7 @@ returns-clause-taken c =
     takes_on (id_last c.requires c.in_ok-push_id.ensures.pushed c.begin.ensures
     (omega (arith, c.count.ensures, c.if-count-self.false))) (ap Ok (sym b.step))
     (b.sums ∙ sums_as refl refl (add_zero _) (add_zero _)) b.rows
-    (record { limits = b.same.limits; start = b.same.start })
+    (record { limits = b.stays.limits; start = b.stays.start })
 
 pub returns-clause-begun : goal.returns-clause-begun
 returns-clause-begun c =

@@ -16,7 +16,7 @@ use Rattle.twkb_engine.specs.Standing.{IsAlive}
 use Rattle.twkb_engine.specs.Taking.{Takes, past_parts, header_row}
 use Rattle.twkb_engine.specs.declared.next_item.NextItem.TheVariants as next
 use Rattle.twkb_engine.specs.declared.engine.Engine.{Engine}
-use Rattle.twkb_engine.proofs.Items.{Leads, leads_as, item_leads, past_with, takes}
+use Rattle.twkb_engine.proofs.Items.{Leads, leads_as, item_leads, past_with, takes, took}
 use Rattle.twkb_engine.proofs.Parts.{sums_as, add_zero, point_allowed, asked_sizes}
 use Rattle.twkb_engine.proofs.engine.Engine.metadata_byte.Goals as goal
 
@@ -60,19 +60,20 @@ after_extended-requires-clause-may g c =
     (search rules) (search rules) (sym c.has_extended.ensures ∙ c.if-has_extended.false)
     s.same.collections s.same.bytes s.kind s.head s.placed).admits
 
-pub returns-clause-taken : goal.returns-clause-taken
-returns-clause-taken g c =
+pub returns : goal.returns
+returns g c =
     let d = c.args.self.now in
     let s = c.set_metadata.ensures in
     let meta = c.from_number-metadata.result in
     let byte = c.from_number-metadata.ensures.whole c.requires.byte in
     let one : c.from-points.result ≡ (if announces_point (kind_in d) meta then 1 else 0) =
     search rules in
-    subst (λ n. Takes (role.Metadata (kind_in d)) n 1 d c.args.flat.now c.after_extended.result
+    took (subst (λ n. Takes (role.Metadata (kind_in d)) n 1 d c.args.flat.now c.after_extended.result
     c.after_extended.new.self c.after_extended.new.flat) byte
     (takes (metadata_leads c.set_metadata.new.self meta c.from-points.result c.requires.comes.alive
     c.requires.comes.next (omega (arith, byte, c.requires.byte))
     one (search rules) (sym c.has_extended.ensures ∙ c.if-has_extended.false) s.same.collections
     s.same.bytes s.kind s.head s.placed)
     _ _ _ _ (sums_as s.same.bytes s.position (s.same.nodes ∙ add_zero d.nodes) (s.same.points
-    ∙ ap (λ x. d.points + x) one)) s.same.limits s.same.start c.after_extended.ensures.landed)
+    ∙ ap (λ x. d.points + x) one)) s.same.limits s.same.start c.after_extended.ensures.landed))
+    (search rules) (search rules) (search rules)

@@ -1,5 +1,5 @@
-use Rattle.std.proofs.Common.{sym, arith, refl}
-use Rattle.twkb_engine.proofs.Items.{takes, takes_on, points_end, points_begin}
+use Rattle.std.proofs.Common.{rules, sym, arith, refl}
+use Rattle.twkb_engine.proofs.Items.{takes, took, takes_on, points_end, points_begin}
 use Rattle.twkb_engine.proofs.Parts.{sums_as, add_zero}
 use Rattle.twkb_engine.proofs.engine.Engine.point_count.Goals as goal
 
@@ -8,21 +8,21 @@ put_empty_list-requires-clause-may g c =
     (points_end _ c.requires c.first.ensures refl (sym c.in_default.ensures) c.line_row-row.ensures
     c.if-count-eq0.true).admits
 
-pub returns-then-count-eq0-clause-taken : goal.returns-then-count-eq0-clause-taken
-returns-then-count-eq0-clause-taken g c =
-    takes (points_end _ c.requires c.first.ensures refl (sym c.in_default.ensures)
-    c.line_row-row.ensures
-    c.if-count-eq0.true) _ _ _ _ (sums_as refl refl (add_zero _) refl) refl refl
-    c.put_empty_list.ensures.shut
+pub returns-then-count-eq0 : goal.returns-then-count-eq0
+returns-then-count-eq0 g c =
+    took (takes (points_end _ c.requires c.first.ensures refl (sym c.in_default.ensures)
+    c.line_row-row.ensures c.if-count-eq0.true) _ _ _ _ (sums_as refl refl (add_zero _) refl) refl refl
+    c.put_empty_list.ensures.landed)
+    (search rules) (search rules) (search rules)
 
 pub push_row-requires : goal.push_row-requires
 push_row-requires g c =
     (points_begin _ c.requires c.first.ensures refl (sym c.in_default.ensures)
     c.line_row-row.ensures (omega (arith, c.if-count-eq0.false))).admits
 
-pub returns-clause-taken : goal.returns-clause-taken
-returns-clause-taken g c =
-    takes_on (points_begin _ c.requires c.first.ensures refl (sym c.in_default.ensures)
-    c.line_row-row.ensures
-    (omega (arith, c.if-count-eq0.false))) refl (sums_as refl refl (add_zero _) refl)
-    c.in_ok-push_row.ensures.pushed (record { limits = refl; start = refl })
+pub returns : goal.returns
+returns g c =
+    took (takes_on (points_begin _ c.requires c.first.ensures refl (sym c.in_default.ensures)
+    c.line_row-row.ensures (omega (arith, c.if-count-eq0.false))) refl
+    (sums_as refl refl (add_zero _) refl) c.in_ok-push_row.ensures.pushed (record { limits = refl; start = refl }))
+    (search rules) (search rules) (search rules)

@@ -6,7 +6,7 @@ use Rattle.twkb_body.proofs.InFront.{refused_is_long}
 use Rattle.twkb_engine.specs.Fits.{IsByte}
 use Rattle.twkb_engine.specs.Standing.{held_in}
 use Rattle.twkb_engine.proofs.Steps.{next_role, byte_written, all_whole, stands_else}
-use Rattle.twkb_engine.proofs.Answering.{item_fed, number_fed, more_fed, byte_alone, long_refused, not_both}
+use Rattle.twkb_engine.proofs.Answering.{limits_kept, item_fed, number_fed, more_fed, byte_alone, long_refused, not_both}
 use Rattle.twkb_engine.proofs.engine.Engine.take_byte.Goals as goal
 
 pub returns-then-is_byte-clause-fed : goal.returns-then-is_byte-clause-fed
@@ -14,17 +14,13 @@ returns-then-is_byte-clause-fed g c = λ bs s.
     let d = c.args.self.now in
     let byte : IsByte d.next = c.is_byte.ensures.0 c.if-is_byte.true in
     let none = byte_alone bs c.args.flat.now d byte s in
-    let r = next_role d in
     let number : c.from.result ≡ c.args.byte = search rules in
-    item_fed g.S.SpanNotes.holds bs c.args.flat.now c.take.new.flat d c.take.new.self
-    c.args.spans.now c.take.new.spans s.front s.outlined r.0 c.from.result (c.args.byte ∷ [])
-    (c.args.byte ∷ []) 1 r.1
-    (subst (λ n. Gives r.0 n (c.args.byte ∷ [])) (sym number)
+    item_fed g.S.SpanNotes.holds bs c.args.flat.now c.take.new.flat d c.take.new.self c.args.spans.now
+    c.take.new.spans bs (c.args.byte ∷ []) (c.args.byte ∷ []) c.from.result 1 s
+    (subst (λ n. Gives (next_role d).0 n (c.args.byte ∷ [])) (sym number)
     (byte_written d c.args.byte c.ranges.byte.fits byte)) (omega arith) (omega arith)
     (ap (λ l. l ++ c.args.byte ∷ []) (sym (all_whole bs c.args.flat.now d none s)))
-    c.take.ensures.kept.limits (c.take.ensures.kept.held ∙ none)
-    1 c.take.result (omega arith) (c.take.ensures.taken r.0 r.1) (c.take.ensures.noted r.0 r.1)
-    (c.take.ensures.placed s.placed)
+    none c.take.result (omega arith) c.take.ensures
 
 pub take-requires-in-Done-clause-alive : goal.take-requires-in-Done-clause-alive
 take-requires-in-Done-clause-alive g c = ∥∥₁_map c.requires.alive (λ s. (
@@ -45,9 +41,7 @@ returns-in-Done-clause-fed g c = λ bs s.
     c.in-Done.ensures.held (λ b. not_both c.is_byte.result c.if-is_byte.false
     (c.is_byte.ensures.1 b)) ((varint_is (held_in d ++ c.args.byte ∷ []) c.in-Done.value).1
     c.in-Done.ensures.answer.0)
-    (omega (arith, c.len.ensures.count)) c.take-in-Done.ensures.kept.limits
-    c.take-in-Done.ensures.kept.held c.take-in-Done.ensures.taken c.take-in-Done.ensures.noted
-    c.take-in-Done.ensures.placed
+    (omega (arith, c.len.ensures.count)) c.take-in-Done.ensures
 
 pub returns-in-More-clause-fed : goal.returns-in-More-clause-fed
 returns-in-More-clause-fed g c = λ bs s.
@@ -61,3 +55,9 @@ returns-in-TooLong-clause-fed g c = λ bs s.
     (λ b. not_both c.is_byte.result c.if-is_byte.false (c.is_byte.ensures.1 b)) (omega arith) (omega arith)
     (λ more. refused_is_long (held_in c.args.self.now) c.args.byte more c.len.ensures.held
     c.ranges.byte.fits c.in-TooLong.ensures.answer)
+
+pub returns-then-is_byte-clause-limits : goal.returns-then-is_byte-clause-limits
+returns-then-is_byte-clause-limits g c = limits_kept c.take.ensures
+
+pub returns-in-Done-clause-limits : goal.returns-in-Done-clause-limits
+returns-in-Done-clause-limits g c = limits_kept c.take-in-Done.ensures

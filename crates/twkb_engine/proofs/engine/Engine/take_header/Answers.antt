@@ -64,9 +64,9 @@ returns-clause-led g c = λ rs front s.
     header_leads d rs rest h c.requires.next c.requires.alone c.in-Some.ensures low front s low_meta
     points announced few g.S.SpanNotes.holds c.args.spans.now c.begin_geometry.new.spans
     c.set_metadata.new.spans e
-    (last.kept.limits ∙ (t.same.limits ∙ b.same.limits))
-    (last.kept.held ∙ (t.same.held ∙ (b.same.held ∙ c.requires.alone)))
-    (last.same.start ∙ (t.same.start ∙ b.same.start)) placed
+    (last.stays.limits ∙ (t.same.limits ∙ b.same.limits))
+    (last.stays.held ∙ (t.same.held ∙ (b.same.held ∙ c.requires.alone)))
+    (last.stays.start ∙ (t.same.start ∙ b.same.start)) placed
     (last.sums ∙ sums_as (ap (λ x. x + h.used) bytes) (t.position ∙ b.position)
     (t.same.nodes ∙ b.same.nodes) (t.same.points ∙ ap (λ x. x + points) b.same.points))
     (last.step ∙ (λ i. (

@@ -4,16 +4,14 @@ use Rattle.twkb_engine.proofs.engine.Engine.take_item.Goals as goal
 
 pub returns-in_err-take-in-Complete-clause-answer : goal.returns-in_err-take-in-Complete-clause-answer
 returns-in_err-take-in-Complete-clause-answer g c =
-    let t = c.in_err-take-in-Complete.ensures in
     let none = alone c.args.self.now c.len.ensures.count (omega (arith, c.if-len-eq0.true)) in
-    same_stop c.from_residual.result c.from_residual.ensures.1 (λ y same. same)
-    (front_fed (Err c.in_err-take-in-Complete.field-0.0) none c.in-Complete.ensures t.kept t.taken t.noted t.placed)
+    same_stop c.from_residual.ensures.1 (front_fed (Err c.in_err-take-in-Complete.field-0.0) none
+    c.in-Complete.ensures c.in_err-take-in-Complete.ensures)
 
 pub returns-in-Complete-clause-answer : goal.returns-in-Complete-clause-answer
 returns-in-Complete-clause-answer g c =
-    let t = c.in_ok-take-in-Complete.ensures in
     let none = alone c.args.self.now c.len.ensures.count (omega (arith, c.if-len-eq0.true)) in
-    front_fed (Ok c.in_ok-take-in-Complete.field-0) none c.in-Complete.ensures t.kept t.taken t.noted t.placed
+    front_fed (Ok c.in_ok-take-in-Complete.field-0) none c.in-Complete.ensures c.in_ok-take-in-Complete.ensures
 
 pub returns-in-TooLong-clause-answer : goal.returns-in-TooLong-clause-answer
 returns-in-TooLong-clause-answer g c =
@@ -23,7 +21,7 @@ returns-in-TooLong-clause-answer g c =
 pub returns-in_err-take_byte-clause-answer : goal.returns-in_err-take_byte-clause-answer
 returns-in_err-take_byte-clause-answer g c =
     let t = c.in_err-take_byte.ensures in
-    same_stop c.from_residual-in_err-take_byte.result c.from_residual-in_err-take_byte.ensures.1 (λ y same. same)
+    same_stop c.from_residual-in_err-take_byte.ensures.1
     (first_fed (Err c.in_err-take_byte.field-0.0) c.requires.some t.limits t.fed)
 
 pub returns-clause-answer : goal.returns-clause-answer

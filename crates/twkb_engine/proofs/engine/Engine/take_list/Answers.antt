@@ -1,4 +1,4 @@
-use Rattle.std.proofs.Common.{refl}
+use Rattle.std.proofs.Common.{refl, rules}
 use Rattle.std.proofs.lemmas.Result.{err_from_is_err_and}
 use Rattle.twkb_engine.proofs.Points.{none_listed, list_unkept}
 use Rattle.twkb_engine.proofs.engine.Engine.take_list.Goals as goal
@@ -18,17 +18,7 @@ returns c =
       within = run.within;
       long = run.long;
       run = run.run;
-      moves = record {
-        bytes = refl;
-        nodes = refl;
-        points = refl;
-        collections = refl;
-        head = refl;
-        ids = refl;
-        members_left = refl;
-        rings_left = refl;
-        next = refl;
-      };
+      moves = search rules;
       memory = tt;
-      stays = record { limits = refl; start = refl; held = refl };
+      stays = search rules;
     }

@@ -33,31 +33,27 @@ named {holds = holds} {d = d} {e = e} {f = f} {rs = rs} {more = more} {last = la
 pub returns-in_err-take_header-in-TypeByte-clause-answer :
     goal.returns-in_err-take_header-in-TypeByte-clause-answer
 returns-in_err-take_header-in-TypeByte-clause-answer g c =
-    stops_fed c.from_residual.result c.from_residual.ensures.1 (λ y same. same)
-    (c.in_err-take_header-in-TypeByte.ensures.memory c.args.flat.now) c.take_header.ensures.stays
+    stops_fed c.from_residual.ensures.1 (c.in_err-take_header-in-TypeByte.ensures.memory c.args.flat.now)
+    c.take_header.ensures.stays
 
 pub returns-in_err-take_ids-in-Id-clause-answer : goal.returns-in_err-take_ids-in-Id-clause-answer
 returns-in_err-take_ids-in-Id-clause-answer g c =
-    many_stopped c.from_residual-in_err-take_ids-in-Id.result
-    c.from_residual-in_err-take_ids-in-Id.ensures.1 (λ y same. same)
-    (c.in_err-take_ids-in-Id.ensures c.args.flat.now)
+    many_stopped c.from_residual-in_err-take_ids-in-Id.ensures.1 (c.in_err-take_ids-in-Id.ensures c.args.flat.now)
 
 pub returns-in_err-used-in-X-clause-answer : goal.returns-in_err-used-in-X-clause-answer
 returns-in_err-used-in-X-clause-answer g c =
-    many_stopped c.from_residual-in_err-used-in-X.result c.from_residual-in_err-used-in-X.ensures.1 (λ y same. same)
+    many_stopped c.from_residual-in_err-used-in-X.ensures.1
     (list_stopped c.args.flat.now c.args.self.now c.in-X.is c.if-self-gt0.true
     (alone c.args.self.now c.len.ensures.count c.if-len-gt0.false) c.in_err-used-in-X.ensures)
 
 pub returns-in_err-end_points-in-X-clause-answer :
     goal.returns-in_err-end_points-in-X-clause-answer
 returns-in_err-end_points-in-X-clause-answer g c =
-    let t = c.in_err-end_points-in-X.ensures in
-    same_stop c.from_residual-in_err-end_points-in-X.result c.from_residual-in_err-end_points-in-X.ensures.1
-    (λ y same. same)
+    same_stop c.from_residual-in_err-end_points-in-X.ensures.1
     (line_fed c.args.flat.now c.take_list.new.flat c.args.self.now c.take_list.new.self c.end_points.new.self
     c.in-X.is c.if-self-gt0.true (alone c.args.self.now c.len.ensures.count c.if-len-gt0.false)
-    c.in_ok-used-in-X.ensures c.if-self-eq0.true g.S.SpanNotes.holds c.args.spans.now c.end_points.new.spans
-    (Err (Refused SizeMismatch)) t.kept (t.ended c.take_list.new.flat) t.noted t.placed)
+    c.in_ok-used-in-X.ensures c.if-self-eq0.true (Err (Refused SizeMismatch))
+    (c.in_err-end_points-in-X.ensures c.take_list.new.flat))
 
 pub returns-then-used-gt0-clause-answer : goal.returns-then-used-gt0-clause-answer
 returns-then-used-gt0-clause-answer g c = many_fed c.in_ok-used-in-X-2.ensures.taken
@@ -79,8 +75,7 @@ take_point-requires-clause-ready g c =
 
 pub returns-in_err-taken-in-X-2-clause-answer : goal.returns-in_err-taken-in-X-2-clause-answer
 returns-in_err-taken-in-X-2-clause-answer g c =
-    same_stop c.from_residual-in_err-taken-in-X-2.result c.from_residual-in_err-taken-in-X-2.ensures.1
-    (λ y same. same) (answer_next (omega arith)
+    same_stop c.from_residual-in_err-taken-in-X-2.ensures.1 (answer_next (omega arith)
     (no_member g (goal.at.returns-in_err-taken-in-X-2-clause-answer g c).Joined-self-gt0-2)
     c.in_err-taken-in-X-2.ensures)
 
@@ -97,12 +92,11 @@ taken g c =
       | in-Id+in_ok-take_ids-in-Id w ↦ named w.self-is w.flat-is w.spans-is w.taken-is
           (many_fed (w.in_ok-take_ids-in-Id.ensures c.args.flat.now))
       | in-X+in_ok-used-in-X+then-self-eq0+in_ok-end_points-in-X w ↦
-          let t = w.in_ok-end_points-in-X.ensures in
           named w.self-is w.flat-is w.spans-is w.taken-is
           (line_fed c.args.flat.now w.take_list.new.flat c.args.self.now w.take_list.new.self
           w.end_points.new.self w.in-X.is w.if-self-gt0.true none w.in_ok-used-in-X.ensures
-          w.if-self-eq0.true g.S.SpanNotes.holds c.args.spans.now w.end_points.new.spans
-          (Ok w.in_ok-end_points-in-X.field-0) t.kept (t.ended w.take_list.new.flat) t.noted t.placed)
+          w.if-self-eq0.true (Ok w.in_ok-end_points-in-X.field-0)
+          (w.in_ok-end_points-in-X.ensures w.take_list.new.flat))
       | in-X+in_ok-used-in-X+else-self-eq0 w ↦ named w.self-is w.flat-is w.spans-is
           (w.taken-is ∙ ap (λ (b : Bool). let t : ℕ × Bool = (w.in_ok-used-in-X.used, b) in t)
           (ne_eqb w.take_list.new.self.points_left 0 w.if-self-eq0.false))
