@@ -1,0 +1,22 @@
+use Rattle.std.proofs.Common.{rules, arith, ap, subst, sym, ◌≡◌, ◌+ℤ◌, None}
+use Rattle.std.specs.Prelude.{not}
+use Rattle.twkb_points.specs.Point.{IsCoordinate}
+use Rattle.twkb_grammar.specs.Roles as role
+use Rattle.twkb_grammar.specs.Fault.{CoordinateRange}
+use Rattle.twkb_grammar.specs.Reading.{in_range, unless}
+use Rattle.twkb_body.proofs.InFront.{ranges, passes, unzigzag_back}
+use Rattle.twkb_engine.specs.Taking.{IsFree}
+use Rattle.twkb_engine.proofs.engine.Engine.x.Goals as goal
+
+pub returns-in_default-clause-taken : goal.returns-in_default-clause-taken
+returns-in_default-clause-taken c = grind (arith, ranges)
+
+pub returns-clause-taken : goal.returns-clause-taken
+returns-clause-taken c = λ rs.
+    let back = unzigzag_back c.unzigzag.result c.args.number c.unzigzag.ensures in
+    let fits : IsCoordinate (c.args.self.now.position.x +ℤ c.unzigzag.result) =
+    search (rules, c.in-Some.ensures.range.0) in
+    let free : IsFree role.X c.args.number c.args.self.now =
+    subst (λ d. unless (not (in_range (c.args.self.now.position.x +ℤ d))) CoordinateRange None ≡ None)
+    (sym back) (ap (λ b. unless (not b) CoordinateRange None) (passes _ fits)) in
+    search rules
