@@ -376,8 +376,8 @@ module _ {S : Type 0} {holds : S → Notes → Type 0} {d e : Engine} {rs more :
       let r = next_role d in
       record {
         limits = limits_kept takes;
-        fed = λ bs s. item_fed holds bs rs more d e old new bs (take count piece) piece n count s (says.gives r.0 r.1) says.some
-            says.within (ap (λ l. l ++ take count piece) (sym (all_whole bs rs d none s))) none answer
+        fed = λ bs s. item_fed holds bs rs more d e old new bs (take count piece) piece n count s (says.gives r.0 r.1)
+            says.some says.within (ap (λ l. l ++ take count piece) (sym (all_whole bs rs d none s))) none answer
             (length-take-le count piece says.within) takes;
       }
 

@@ -1,6 +1,7 @@
 -- Points, members and ids that are complete at the start of the bytes, and the ends of lists.
 use Rattle.std.proofs.Common.{◌≡◌, ℕ, suc, ◌-◌, ◌≤◌, ◌+◌, ◌<◌, List, [], ◌∷◌, ◌++◌, length, take, refl, sym, ap, ◌∙◌}
-use Rattle.std.proofs.Common.{subst, append-nil, arith, rules, true, None, Result, Ok, Err, false, Bool, OnOk, IfOk, zero}
+use Rattle.std.proofs.Common.{subst, append-nil, arith, rules, true, None, Result, Ok, Err, false, Bool, OnOk, IfOk}
+use Rattle.std.proofs.Common.{zero}
 use Rattle.std.proofs.lemmas.List.{length-take-le}
 use Rattle.std.specs.Prelude.{ℤ, if◌then◌else◌, Option, ◌&&◌, nat_eq}
 use Rattle.twkb_points.specs.Point.{Point}

@@ -6,7 +6,8 @@ use Rattle.twkb_body.proofs.InFront.{refused_is_long}
 use Rattle.twkb_engine.specs.Fits.{IsByte}
 use Rattle.twkb_engine.specs.Standing.{held_in}
 use Rattle.twkb_engine.proofs.Steps.{next_role, byte_written, all_whole, stands_else}
-use Rattle.twkb_engine.proofs.Answering.{limits_kept, item_fed, number_fed, more_fed, byte_alone, long_refused, not_both}
+use Rattle.twkb_engine.proofs.Answering.{limits_kept, item_fed, number_fed, more_fed, byte_alone, long_refused}
+use Rattle.twkb_engine.proofs.Answering.{not_both}
 use Rattle.twkb_engine.proofs.engine.Engine.take_byte.Goals as goal
 
 pub returns-then-is_byte-clause-fed : goal.returns-then-is_byte-clause-fed
