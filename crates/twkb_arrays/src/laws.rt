@@ -35,8 +35,8 @@ pub fn one_answer()
         → (counts.status ≡ 4) ⊎ ((read.given ++ read.later ≡ gs) × (counts.status ≢ 1)) }
 {}
 
-/// If both `read_arrays` and `unpack` refuse at most 2^62 bytes, both report the same reason and
-/// place.
+/// If both `read_arrays` and `unpack` refuse an item of the same bytes, at most 2^62 of them, both
+/// report the same reason and place.
 pub fn one_refusal()
     ensures { (l : Allowance) (bytes : List ℕ) (old_rows new_rows : List InRow)
         (old_points new_points : List InPoint) (counts : InCounts) (text : List ℕ) (done : ℕ)
@@ -46,8 +46,8 @@ pub fn one_refusal()
         → Tells report why → (counts.reason ≡ report.reason) × (counts.place ≡ report.place) }
 {}
 
-/// The rows that `read_arrays` makes of a whole stream, with status 0, are the rows of the table to
-/// which the stream is unpacked.
+/// If `read_arrays` reads a whole stream with status 0, its arrays begin with the rows of the table
+/// to which the stream is unpacked, and with their points; later places are unchanged.
 pub fn same_rows()
     ensures { (l : Allowance) (bytes : List ℕ) (old_rows new_rows : List InRow)
         (old_points new_points : List InPoint) (counts : InCounts) (text : List ℕ) (done : ℕ)
@@ -56,9 +56,10 @@ pub fn same_rows()
         → AreSameRows text old_rows old_points new_rows new_points }
 {}
 
-/// A row that is refused after others is refused as a record of a table too, for the same reason,
-/// if its depth, id and precision fit a record, and its points are neither out of range nor too
-/// many.
+/// A row that is refused after others, or none, is refused after them as a record of a table too,
+/// under the same limits and for the same reason, if its depth is at most 999, its id and
+/// precision, if any, are from -2^63 to 2^63 - 1, and the reason is not that its points are out of
+/// range or too many.
 pub fn one_reason()
     ensures { (l : Allowance) (rs : List TableRow) (r : TableRow) (why : Refusal) (v : Verdict)
         → r.depth ≤ 999 → IfSome r.id IsId → IfSome r.precision IsId
@@ -76,8 +77,9 @@ pub fn one_writing()
         → (report.status ≡ 4) ⊎ ((wrote.given ++ wrote.later ≡ gs) × (report.status ≢ 1)) }
 {}
 
-/// At most 2^62 bytes that `write_arrays` wrote with status 0 are read back by `read_arrays` to the
-/// same arrays, if there is room for them, unless memory is refused.
+/// At most 2^62 bytes that `write_arrays` wrote with status 0 are read back by `read_arrays`, with
+/// status 0, to the same rows and points at the start of arrays that have room for them, and later
+/// places are unchanged, unless memory is refused.
 pub fn read_back()
     ensures { (l : Allowance) (given old new : Arrays) (counts : InCounts) → IsAllowance l
         → IsRoundTrip l given old new counts

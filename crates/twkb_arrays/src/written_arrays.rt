@@ -110,7 +110,9 @@ impl Writer {
     // Reads the first of `rows`, of which there must be one, with as many of the points ahead as it
     // names, and returns how many. If it is a root, first ends the open geometry. If it is known to
     // be a whole geometry, its blob is at once written, or counted; else it is appended to the open
-    // geometry. An `Err` is want of memory, or the number of the reason to refuse the row.
+    // geometry. The output must be the one that has the earlier blobs, and the rows of the open
+    // geometry must be valid. An `Err` is want of memory, or the number of the reason to refuse the
+    // row; the open geometry may then be ended, but the row is neither appended nor written.
     #[inline(always)]
     fn write_row(
         &mut self,
@@ -212,9 +214,9 @@ impl Writer {
     }
 }
 
-// The reason why writing stopped at the row at this place, with the place and, if that is the
-// reason, the index of the row's first point out of range. `ahead` has the points from its first
-// one on.
+// The reason why writing stopped at the row at this place: want of memory, or a refusal with the
+// place and the index of the row's first point out of range, if that is the reason, or else 0.
+// `ahead` has the points from the row's first one on.
 #[cold]
 fn at_row(place: usize, ahead: &[BufferPoint], stop: Stop<u32>) -> Stop<RefusedAt>
     ensures { result ≡ stopped_at place ahead.now stop }
@@ -273,8 +275,11 @@ fn reported(sent: &Sent, answer: Result<(), Stop<RefusedAt>>) -> BufferReport
 
 /// Writes rows, in a table's order (profile), and their points as canonical blobs in a style, one
 /// for each geometry. Stops at a refused row, after the blobs of the geometries complete before it,
-/// or at the end if points are left over, before the last blob. If the output lacks room for a
-/// blob, it and later ones are only counted. Takes memory for one geometry and its blob.
+/// or at the end if points are left over, before the last blob; the place is the row's index from
+/// 0, or the number of rows. If the output lacks room for a blob, it and later ones are only
+/// counted: status 5, even if a later row is refused. `needed` is the number of bytes of all blobs,
+/// written or counted. Bytes after what is written are unchanged. Takes memory for one geometry and
+/// its blob.
 pub fn write_arrays(
     alloc: Global,
     rows: &[BufferRow],

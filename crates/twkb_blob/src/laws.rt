@@ -7,8 +7,8 @@ ghost use Rattle.twkb_blob.specs.Sessions.{HeldOf, FramesOf};
 
 pub use twkb_grammar::laws::{one_blob, written_is_blob};
 
-/// The bytes of a stream determine how many of them a session holds, and how many geometries are
-/// begun and not finished.
+/// The bytes of a stream that were fed to a session with given limits determine how many of them it
+/// holds, and how many geometries are begun and not finished.
 pub fn one_count()
     ensures held { (limits : Allowance) (bytes : List ℕ) (gs hs : List Tree) (m n : ℕ)
         → HeldOf limits bytes gs m → HeldOf limits bytes hs n → m ≡ n }

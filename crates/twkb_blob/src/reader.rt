@@ -103,11 +103,12 @@ impl<'a, R: Read> Reader<'a, R> {
         Ok(Some(Located { geometry, spans }))
     }
 
-    // Reads the next blob with an engine, which must have the reader's limits and be where the blob
-    // begins, and returns whether there was one: its bytes alone leave the input, the form has its
-    // rows, and `spans`, which must have noted nothing, notes its spans. After a false or an `Err`,
-    // which is as with `next`, the form has no rows, and nothing is known of the spans and the
-    // engine. Takes memory as `Engine::feed` does.
+    // Reads the next blob with an engine, and returns whether there was one: its bytes alone leave
+    // the input, the form has its rows, `spans`, which must have noted nothing, notes its spans,
+    // and the engine is where the next one begins. Unless the reader has ended or is spent, the
+    // engine must have its limits and be where the blob begins. After a false or an `Err`, which is
+    // as with `next`, the form has no rows, and nothing is known of the spans and the engine. Takes
+    // memory as `Engine::feed` does.
     #[inline(always)]
     pub(crate) fn read_with<S: SpanNotes>(
         &mut self,

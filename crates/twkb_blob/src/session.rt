@@ -272,7 +272,7 @@ impl Session {
     }
 
     /// The number of bytes that the session holds of a varint whose last byte was not fed yet, 0 to
-    /// 9. Takes no memory.
+    /// 9. After an `Err` nothing more is known of it. Takes no memory.
     pub fn held(&self) -> usize
         ensures held { (bytes : List ℕ) (gs : List Tree) → Stands bytes gs self.now
             → HeldOf (session_limits self.now) bytes gs result }
@@ -285,7 +285,8 @@ impl Session {
     }
 
     /// The number of open geometries: their type byte was fed, and their end was not. It is 0
-    /// between two blobs, and at most one more than the limit of nesting. Takes no memory.
+    /// between two blobs, and at most one more than the limit of nesting. After an `Err` nothing is
+    /// known of it. Takes no memory.
     pub fn frames(&self) -> usize
         ensures open { (bytes : List ℕ) (gs : List Tree) → Stands bytes gs self.now
             → FramesOf (session_limits self.now) bytes gs result }

@@ -24,16 +24,16 @@ pub fn role()
 
 /// The outline before an item, the number of bytes up to the item's end and its number determine
 /// the outline after it (`item`). The outline before the ends of geometries and the number of bytes
-/// determine the one after them (`ends`).
+/// determine the one after them, or that a size is not exact (`ends`).
 pub fn steps()
     ensures item { (p : Point) (bytes n : ℕ) (st : Stack)
         → outline_of (advanced p bytes n st.0 st.1) ≡ outline_advanced bytes n (outline_of st) }
     ensures ends { (bytes : ℕ) (st : Stack) → outline_in (ends bytes st.0 st.1) ≡ outline_ends bytes (outline_of st) }
 {}
 
-/// The rows after an item are those before it with one change, which the outline before the item,
-/// its number and the position that it leads to determine. The ends of geometries change no row,
-/// and at the end of the blob the rows are those of the geometry.
+/// The rows after an item are those before it with at most one change, which the outline before the
+/// item, its number and the position that it leads to determine. The ends of geometries change no
+/// row, and at the end of the blob the rows are those of the geometry.
 pub fn grows()
     ensures item { (p : Point) (bytes n : ℕ) (st : Stack)
         → rows_so_far (advanced p bytes n st.0 st.1) ≡ applied (change_of p n (outline_of st))
@@ -50,10 +50,17 @@ pub fn valid()
     ensures takes { (p : Point) (n : ℕ) (st : Stack) → Takes (change_of p n (outline_of st)) (rows_so_far st) }
 {}
 
-/// What holds of a reader that keeps an outline and rows: at the start, after an item, if an item
-/// is refused, after the ends of geometries, at a blob's end, and if bytes are missing or a number
-/// is too long. The bytes read begin a blob, the sums count them, the rows are those of a valid
-/// geometry or there are none, and no more collections are open than the limits allow.
+/// What holds of a reader that keeps an outline and rows. They are those of the items read: at the
+/// start, after an expected item without objection, and after the ends of geometries with exact
+/// sizes. If the expected item is refused, a size is not exact, a number is cut or too long, or,
+/// after at least one byte, the bytes end before an item that is no end, that is the first fault.
+/// At a blob's end the bytes are a blob of a geometry with these rows. Always the bytes read begin
+/// a blob, and the sums count them; the rows are those of a valid geometry, or there are none; no
+/// more collections are open than the limits allow; the open lists are those of the body's form;
+/// and a point that is added to an existing row goes into that of a line or ring. Three clauses
+/// need limits that are within their caps and allow a node: `starts`; `largest`, by which the rows
+/// are also valid under the largest limits; and `row`, by which the last row continues those before
+/// it under the largest limits.
 pub fn reading()
     ensures starts { (limits : Allowance) → IsAllowance limits → Outlined limits [] nothing ([], OnHeader) [] }
     ensures item { (limits : Allowance) (bytes : List ℕ) (e : Sums) (o : Outline) (rs : List Row)
@@ -99,7 +106,7 @@ pub fn reading()
 /// The rows so far can take the change of the next item, within the largest limits, if there is no
 /// objection to the item, whether or not the sizes that end with it are exact (`item`). If a point
 /// is expected, and its two numbers lead to a point in range, they can also take the change of both
-/// at once (`point`).
+/// at once (`point`). Both need limits that are within their caps and allow a node.
 pub fn admitting()
     ensures item { (limits : Allowance) → IsAllowance limits
         → (bytes : List ℕ) (e : Sums) (o : Outline) (rs : List Row) (i : Item)
@@ -109,9 +116,11 @@ pub fn admitting()
         → AtPoint (Outlined limits) (λ bytes e o change rs. Admits change rs) }
 {}
 
-/// The two numbers of a point may be taken at once wherever a point is expected: inside a list, at
-/// the end of lists, and at the end of a geometry. The outline, the rows and the notes of spans are
-/// then as after one number and then the other.
+/// If a point is expected (inside a list, at the end of lists, or at the end of a geometry), and its
+/// two numbers lead to a point in range, both may be taken at once. The sums, the outline and the
+/// rows are then those after one number and then the other (`taken`), and the notes of spans are
+/// those before them (`noted`). A point that goes into an existing row goes into that of a line or
+/// ring (`takes`).
 pub fn points()
     ensures taken { (limits : Allowance) → AtPoint (Outlined limits)
         (λ bytes e o change rs. Outlined limits bytes e o (applied change rs)) }
@@ -121,8 +130,9 @@ pub fn points()
         (λ bytes e o change rs. NotedOutline limits bytes e o (applied change rs) told) }
 {}
 
-/// The outline determines the notes that a reader makes of spans, whether what comes next is
-/// neither a header nor an end, and the number of open geometries.
+/// The outline determines the notes that a reader makes of spans (`note`), and the number of open
+/// geometries (`count`). If the outline expects no header or end as an optional part, neither does
+/// the state that it outlines (`calm`).
 pub fn noting()
     ensures note { (st : Stack) (offset points byte : ℕ) (w : Notes)
         → note_byte st.1 offset points byte w ≡ note_stage (stage_of st.1) offset points byte w }

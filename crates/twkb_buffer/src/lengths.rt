@@ -7,8 +7,9 @@ use std::alloc::Global;
 use std::io;
 use twkb_convert::{Cause, Conversion, ConvertFault, Limits, Report, Tap, convert};
 
-// Converts a slice, drops the output, and returns the result of the conversion, with the number of
-// bytes that the output has.
+// Converts a slice and drops the output. Returns the result of the conversion, with the number of
+// bytes that the whole output has, or has up to where the conversion stopped. Takes memory for one
+// geometry.
 fn count_output(
     alloc: Global,
     what: Conversion,

@@ -1,5 +1,5 @@
-//! Sizes of moderate doubles in whole units, by few operations. A double is moderate if its exponent
-//! is one of 64, which depend on the factor.
+//! Sizes of moderate doubles in whole units, by few operations. A double is moderate if its
+//! exponent is one of 64, which depend on the factor.
 ghost use Rattle.std.specs.Prelude.{◌≡◌, ◌%◌, ◌^◌, ◌<◌, ◌≤◌, IfSome, IsSome};
 ghost use Rattle.twkb_buffer.specs.RoundedNumbers.{IsFinite, IsMultiplier, IsNearest, above_halfway, below_halfway};
 ghost use Rattle.twkb_buffer.specs.RoundedNumbers.{significand};
@@ -51,8 +51,8 @@ pub(crate) fn multiplier_of(factor: u64) -> Multiplier
     }
 }
 
-// The whole number of units nearest to the point halfway between a double and the next greater one
-// in size, as `halfway_size` finds it; `None` if the double is not moderate.
+// The whole number of units, at most 10^14, nearest to the point halfway between a double and the
+// next greater one in size, as `halfway_size` finds it; `None` if the double is not moderate.
 #[inline(always)]
 pub(crate) fn moderate_size(number: u64, multiplier: Multiplier) -> Option<u64>
     requires { IsMultiplier multiplier }

@@ -78,8 +78,9 @@ pub(crate) fn nothing_put(status: u32, needed: u64) -> BufferReport
     }
 }
 
-// Copies a list to the start of a slice, if there is room for all of it, and reports status 0; else
-// writes nothing, and reports status 5. `needed` is the length of the list in both cases.
+// Copies a list to the start of a slice, if there is room for all of it, and reports status 0,
+// `done` 1 and as `sent` the list's length; else writes nothing, and reports status 5 and 0 for
+// both. `needed` is the list's length in both cases.
 fn put_whole<T: Copy>(whole: &[T], output: &mut [T]) -> BufferReport
     ensures { Puts whole.now output.old output.new result }
 {

@@ -4,10 +4,10 @@ ghost use Rattle.twkb_command.specs.Outcome.{status_of};
 
 use twkb_convert::Cause;
 
-// Everything was converted, or help or the version was asked for and printed.
+// Everything was converted, or help or the version was asked for.
 pub(crate) const DONE: u8 = 0;
 
-// The input is refused, or too long.
+// The input is refused, or the input or the output is too long.
 const REFUSED: u8 = 1;
 
 // The words of the command line are refused.

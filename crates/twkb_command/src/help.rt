@@ -35,7 +35,8 @@ pub(crate) const CALL_SHOW: &str = "polytwkb show [OPTIONS] < STREAM > LINES
 // The end of a subcommand's help.
 pub(crate) const ELSEWHERE: &str = "'polytwkb --help' describes tables, streams and exit statuses.";
 
-// The value of `--max-nest`, which the text of a refused number shows beside the range as `clap` writes it.
+// The value of `--max-nest`, which the text of a refused number shows beside the range as `clap`
+// writes it.
 pub(crate) const NEST: &str = "0 to 32";
 
 // The meaning of `--max-nest`.

@@ -3,7 +3,7 @@
 /// Why words ask for no conversion.
 #[derive(PartialEq, Eq, Debug, Drop)]
 pub enum Refusal {
-    /// Memory was refused, for reading the words or for the text that says what is wrong with them.
+    /// Memory was refused, for reading the words or for the text of another refusal.
     Memory,
     /// Help was asked for, with this text.
     Help(String),

@@ -11,10 +11,11 @@ use std::io::{Read, Write};
 use twkb_io::Tap;
 
 /// Runs the command with its words, the first of which is the program's name, and returns the exit
-/// status: 0 if all was converted, or if help or the version was asked for, 1 if the input is
-/// refused, or the input or the output is too long, 2 if the words are refused, 3 if a device
-/// failed, 4 if memory was refused. If it is not 0, the reason is written to `errors`; a failure
-/// there changes nothing else. Takes memory to read the words, and as `twkb_convert::convert` does.
+/// status: 0 if all was converted, or if help or the version was asked for, which is written to
+/// `writer`, 1 if the input is refused, or the input or the output is too long, 2 if the words are
+/// refused, 3 if a device failed, 4 if memory was refused. If it is not 0, the reason is written to
+/// `errors`. A failure to write that, help or the version changes nothing else. Takes memory as
+/// `read_words` and `twkb_convert::convert` do.
 pub fn run<R: Read, W: Write, E: Write>(
     alloc: Global,
     words: &[String],

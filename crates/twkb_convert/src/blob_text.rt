@@ -22,9 +22,10 @@ pub(crate) trait BlobText {
         ensures text { result.now ≡ layout.first };
 
     // Reads the next blob, makes its text in place of what `text` holds, and returns true; false if
-    // there is none. An `Err` is why there is no text: a fault of the reader, or want of memory.
-    // After a false or an `Err` it must not be called again, and `text` is empty, has the text of
-    // the blob before, or has a prefix of that of this blob. Takes memory.
+    // there is none. No call of the reader or of its input may have failed before, and none of the
+    // reader may have found the end; so it must not be called again after a false or an `Err`,
+    // which leaves `text` as it was, empty, or with a prefix of the text of this blob. An `Err` is
+    // why there is no text: a fault of the reader, or that memory was refused. Takes memory.
     fn read_next<R: Read>(
         &mut self,
         blobs: &mut StreamReader<'_, '_, R>,

@@ -5,9 +5,10 @@ use crate::report::{Cause, ConvertFault, Report};
 use std::io::Write;
 use twkb_io::{OutFault, Output};
 
-// Flushes the output of a conversion, unless it refused a call before, and reports `geometries` and
-// the number of bytes that the writer took. An `Err` has the cause in `sending`, for which the
-// conversion stopped, or in its place, if the flush fails, the cause of that.
+// Flushes the output of a conversion, unless the output refused a call before, and reports
+// `geometries` and the number of bytes that the writer took. `sending` says whether the conversion
+// stopped, and why. The result is an `Err` if it did or if the flush fails; if both, the `Err` has
+// the cause of the flush. Takes no memory.
 pub(crate) fn finish<W: Write>(
     output: &mut Output<'_, W>,
     geometries: u64,

@@ -18,14 +18,16 @@ ghost use Rattle.twkb_convert.specs.Parts.{IsRefusedText};
 ghost use Rattle.twkb_convert.specs.Listings.{LocatedStream, ShowTo, geometries_of, lines_text};
 ghost use Rattle.twkb_convert.specs.Outputs.{IsTable, PackTextTo, PackTo, UnpackTo, table_text};
 
-/// If a table's records are those of valid geometries, packing the table, in either style, and
-/// unpacking the result gives a table from which `csv` reads the same records.
+/// If a table's records are those of geometries valid under given limits, packing the table, in
+/// either style, and unpacking the result, both under these limits, gives a table from which `csv`
+/// reads the same records.
 pub fn unpack_of_pack()
     ensures { (style : Style) (l : Allowance) (table bytes text : List ℕ) (records : List Record) → IsAllowance l
         → IsTable l table records → PackTo style l records bytes → UnpackTo l bytes text → AreRecordsOf text records }
 {}
 
-/// Packing an unpacked stream gives the canonical stream of its geometries.
+/// Unpacking a stream of geometries valid under given limits and packing the result, in either
+/// style, both under these limits, gives the canonical stream of the geometries in that style.
 pub fn pack_of_unpack()
     ensures { (style : Style) (l : Allowance) (bytes text packed : List ℕ) (gs : List Tree) → IsAllowance l
         → Stream l bytes gs → UnpackTo l bytes text → PackTextTo style l text packed
@@ -40,9 +42,9 @@ pub fn one_packed_output()
         → IsAllowance l → PackTo style l records a → PackTo style l records b → a ≡ b }
 {}
 
-/// The refused record that `pack` reports is the first one refused in the whole table, and the
-/// geometries that it has written are those complete before that record. So the records of the
-/// whole table name no geometries.
+/// The refused record that `pack` reports is the first one refused in the whole table under the
+/// same limits, and the geometries that it has written are those complete before that record. So
+/// the records of the whole table name no geometries valid under these limits.
 pub fn refused_table()
     ensures complete { (l : Allowance) (text : List ℕ) (records : List Record) (number : ℕ)
         (reason : RowReason) (gs : List Tree)
@@ -52,16 +54,17 @@ pub fn refused_table()
         → IsRefusedText l text records number reason gs → NamesNone l records }
 {}
 
-/// The packed output of a table with a refused record is the canonical stream of the geometries
-/// that are complete before that record.
+/// The packed output of a table with a refused record, in either style and under the limits that
+/// refuse it, is the canonical stream, in that style, of the geometries that are complete before
+/// that record.
 pub fn refused_output()
     ensures { (style : Style) (l : Allowance) (text : List ℕ) (records : List Record) (number : ℕ)
         (reason : RowReason) (gs : List Tree)
         → IsRefusedText l text records number reason gs → PackTo style l records (canonical_stream style gs) }
 {}
 
-/// The bytes that `pack` has written when it stops, some blobs and a prefix of the next one, are a
-/// prefix of the output for the whole table.
+/// The bytes that `pack` has written when it stops, some blobs or none and a prefix of the next
+/// one, are a prefix of the output for the whole table in the same style and under the same limits.
 pub fn pack_front()
     ensures { (style : Style) (l : Allowance) (text written bytes : List ℕ) → IsAllowance l
         → FrontOfBlobs style l (Some text) written → PackTextTo style l text bytes → BeginsWith (Some bytes) written }
@@ -74,15 +77,16 @@ pub fn one_unpacked_output()
     ensures one { (l : Allowance) (bytes a b : List ℕ) → UnpackTo l bytes a → UnpackTo l bytes b → a ≡ b }
 {}
 
-/// The text that `unpack` has written when it stops, a prefix of the table of the first blobs, is a
-/// prefix of the output for all bytes.
+/// The text that `unpack` has written when it stops, a prefix of the table of the first blobs or of
+/// none, is a prefix of the output for all bytes under the same limits.
 pub fn unpack_front()
     ensures { (l : Allowance) (all bytes text written : List ℕ) (gs : List Tree)
         → BeginsWith (Some all) bytes → Stream l bytes gs
         → BeginsWith (Some (table_text gs)) written → UnpackTo l all text → BeginsWith (Some text) written }
 {}
 
-/// A stream has exactly one list of blobs with their spans.
+/// A stream has exactly one list of blobs with their spans, given the limits and the offset at
+/// which it begins; the geometries of the list are those of the stream.
 pub fn one_located_stream()
     ensures some { (l : Allowance) (offset : ℕ) (bytes : List ℕ) (gs : List Tree)
         → Stream l bytes gs → (bs : List Located) × LocatedStream l offset bytes bs
@@ -98,8 +102,8 @@ pub fn one_shown_output()
     ensures one { (l : Allowance) (bytes a b : List ℕ) → ShowTo l bytes a → ShowTo l bytes b → a ≡ b }
 {}
 
-/// The text that `show` has written when it stops, a prefix of the lines of the first blobs, is a
-/// prefix of the output for all bytes.
+/// The text that `show` has written when it stops, a prefix of the lines of the first blobs or of
+/// none, is a prefix of the output for all bytes under the same limits.
 pub fn show_front()
     ensures { (l : Allowance) (all bytes text written : List ℕ) (bs : List Located)
         → BeginsWith (Some all) bytes → LocatedStream l 0 bytes bs
@@ -108,9 +112,10 @@ pub fn show_front()
 
 // ---- parts, converted separately
 
-/// Two tables of valid geometries may be packed separately: their outputs, joined, are the output
-/// of the rows of both below one header. A table of valid geometries may be cut into two such
-/// tables before any row of depth 0.
+/// Two tables of geometries valid under the same limits may be packed separately, in one style and
+/// under these limits: their outputs, joined, are the output of the rows of both below one header.
+/// So may the two parts of one such table that is cut before a row of depth 0 or at its end, the
+/// second part below a header of its own.
 pub fn packed_parts()
     ensures joined { (style : Style) (l : Allowance) (rows more : List Record) → IsAllowance l
         → RowsName l rows → RowsName l more → PackApart style l rows more }
@@ -118,15 +123,17 @@ pub fn packed_parts()
         → BeginAtRoot more → RowsName l (rows ++ more) → PackApart style l rows more }
 {}
 
-/// Bytes that begin with a stream may be unpacked in two parts: the output is the stream's table,
-/// and then the table of the other bytes without the header's line.
+/// Bytes that begin with a stream may be unpacked in two parts under the same limits: the output is
+/// the stream's table, and then the table of the other bytes without the header's line.
 pub fn unpacked_parts()
     ensures { (l : Allowance) (a b : List ℕ) (gs : List Tree) (table rows : List ℕ) → Stream l a gs
         → UnpackTo l a table → UnpackTo l b (csvtext (header ∷ []) ++ rows) → UnpackTo l (a ++ b) (table ++ rows) }
 {}
 
-/// Bytes that begin with a stream may be shown in two parts: the output is the stream's lines, and
-/// then those of the other bytes, with the stream's length added to each offset.
+/// Bytes that begin with a stream may be shown in two parts under the same limits: the output is
+/// the stream's lines, and then those of the other bytes, with the stream's length added to each
+/// offset. If the other bytes are a stream too, all bytes have the blobs and spans of the first
+/// stream, and then those of the other one, with the same number added to each offset.
 pub fn shown_parts()
     ensures blobs { (l : Allowance) (a b : List ℕ) (bs cs : List Located) → LocatedStream l 0 a bs
         → LocatedStream l 0 b cs → LocatedStream l 0 (a ++ b) (bs ++ all_moved (length a) cs) }

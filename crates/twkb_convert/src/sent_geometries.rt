@@ -42,10 +42,11 @@ pub(crate) struct Sent {
 }
 
 // Sends the geometries of a table to an output in a style, each when the row after it was accepted
-// or the table's end was reached, and adds them and their work to `sent`. An `Err` is a fault of
-// the table or of the output, want of memory, or `TooLong` after 2^64 - 1 geometries; want of
-// memory in `csv` is `ReadDevice` here, which `after_reads` corrects. Takes memory for one record
-// and one geometry with its sizes.
+// or the table's end was reached, and adds them and their work to `sent`, which must count those of
+// the table that were sent before. An `Err` is a fault of the table or of the output, `Memory` if a
+// growth was refused, or `TooLong` after 2^64 - 1 geometries; a growth refused to `csv` is
+// `ReadDevice` here, which `after_reads` corrects. Takes memory for one record and one geometry
+// with its sizes.
 pub(crate) fn send_table<R: Read, W: Write>(
     table: &mut TableReader<'_, R>,
     style: Style,
@@ -69,10 +70,10 @@ pub(crate) fn send_table<R: Read, W: Write>(
 }
 
 // Fast path: sends the geometries that come next, as long as they are known to be points that are
-// not empty, and adds them and their work to `sent`. An `Err` is as with `send_table`. Takes memory
-// as `TableReader::next_point` does. Out of line, and a loop of its own: inlined, it adds 1 in 100
-// to the instructions of other geometries; a call for each point adds 150 instructions to each
-// point.
+// not empty, and adds them and their work to `sent`. An `Err`, and what `sent` must count, are as
+// with `send_table`. Takes memory as `TableReader::next_point` does. Out of line, and a loop of its
+// own: inlined, it adds 1 in 100 to the instructions of other geometries; a call for each point
+// adds 150 instructions to each point.
 #[inline(never)]
 fn send_points<R: Read, W: Write>(
     table: &mut TableReader<'_, R>,

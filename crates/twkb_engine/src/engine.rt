@@ -86,7 +86,7 @@ impl Engine {
 
     // Goes to the start of the next blob, which is where the one that was read ends; nothing of
     // that one may be left. Forgets sums and position, and the open collections, whose memory it
-    // keeps.
+    // keeps. Takes no memory.
     pub(crate) fn restart(&mut self)
         requires shut { are_shut self.old.points_left self.old.rings_left self.old.members_left ≡ true }
         ensures begins { BeginsAt (self.old.start + self.old.bytes) self.new }
@@ -104,8 +104,9 @@ impl Engine {
 
     // Takes the next item by its number of `width` bytes (one byte below 256 for a type, metadata
     // or extended byte), which must end at an offset of at most 2^63. Returns whether the blob ends
-    // with it. An `Err` is the first reason against it, an inexact size of a geometry that ends
-    // here, or refused memory. A row, a point, an id, an open collection and a span take memory.
+    // with it. `flat` and `spans` are as with `feed`. An `Err` is the first reason against it, an
+    // inexact size of a geometry that ends here, or refused memory. A row, a point, an id, an open
+    // collection and a span take memory.
     #[inline(never)]
     pub(crate) fn take<S: SpanNotes>(
         &mut self,

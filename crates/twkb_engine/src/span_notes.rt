@@ -11,7 +11,8 @@ pub trait SpanNotes {
     ghost holds: { Self → Notes → Type 0 };
 
     /// Notes that a geometry begins with this type byte at this offset of the stream, after
-    /// `points` points of its blob. Takes memory; after an `Err` the notes may be incomplete.
+    /// `points` points of its blob. Fewer than 2^32 geometries must be open before. Takes memory;
+    /// after an `Err` the notes may be incomplete.
     fn begin(&mut self, offset: u64, points: u64, byte: TypeByte) -> Result<(), AllocError>
         ensures { OnOk result ((w : Notes) → length w.begun < 2 ^ 32 → holds self.old w
             → holds self.new (note_header offset points byte w)) };

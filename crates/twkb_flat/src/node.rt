@@ -29,7 +29,8 @@ pub struct Node {
     pub row: Row,
     /// The node after its subtree; the number of nodes if there is none.
     pub next: NodeId,
-    /// The first of the row's own points; if it has none, the point after its place.
+    /// The first of the row's own points; if it has none, the number of points of the rows before
+    /// it.
     pub first: PointId,
     /// The number of points of the row itself.
     pub points: u32,

@@ -24,7 +24,7 @@ impl Flat {
     }
 
     // The open row at this depth, which must be below `levels`: its kind, and whether its first
-    // child has an id.
+    // child has an id, `None` if it has no child.
     fn open_row(&self, depth: u32) -> OpenRow
         requires { depth < open_count (reverse self.now) }
         ensures { IsOpenAt depth (reverse self.now) result }

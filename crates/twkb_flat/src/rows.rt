@@ -17,8 +17,9 @@ pub struct Rows {
 }
 
 impl Rows {
-    /// The row at this place in preorder, and the points of that row. Adds one to
-    /// `work.node_reads`, and the number of the points to `work.point_reads`. Takes no memory.
+    /// The row at this place in preorder, and the points of that row; there must be such a row.
+    /// Adds one to `work.node_reads`, and the number of the points to `work.point_reads`. Takes no
+    /// memory.
     pub fn row_at(&self, id: NodeId, work: &mut Work) -> (Row, &[Pt])
         requires { id.0 < length self.now.flat }
         ensures row { slice_get self.now.flat id.0 ≡ Some (row_with result.0 result.1.now) }

@@ -1,4 +1,6 @@
-//! Laws of blobs, each stated as the contract of an empty function.
+//! Laws of blobs, each stated as the contract of an empty function, for any limits that `Limits`
+//! can hold. All that a clause calls valid, a blob, a stream, a part or a fault is so under the
+//! same limits.
 ghost use Rattle.std.specs.Prelude.{◌≡◌, ◌≢◌, ◌↔◌, ◌⊎◌, ◌<◌, ◌≤◌, ◌+◌, ◌*◌, ℕ, List, [], ◌++◌, length, map, Some};
 ghost use Rattle.std.specs.List.{AllByRecursion};
 ghost use Rattle.twkb_tree.specs.Tree.{Tree, IsTree, nodes, flat};
@@ -42,9 +44,9 @@ pub fn some_byte()
     ensures { (limits : Allowance) (bytes : List ℕ) (g : Tree) → Blob limits bytes g → 1 ≤ length bytes }
 {}
 
-/// Bytes are a stream of at most one list of geometries. If a stream begins with a shorter one, the
-/// bytes after the shorter one are a stream of the other geometries. Two streams joined are a
-/// stream.
+/// Bytes are a stream of at most one list of geometries. If a stream begins with another, its list
+/// begins with that of the other, and the bytes after the other are a stream of the remaining
+/// geometries. Two streams joined are a stream of the geometries of both, in order.
 pub fn one_stream()
     ensures one_reading { (limits : Allowance) (bytes : List ℕ) (gs hs : List Tree)
         → Stream limits bytes gs → Stream limits bytes hs → gs ≡ hs }
@@ -65,9 +67,10 @@ pub fn blob_or_fault()
         → Stream limits (bytes ++ rest) hs → ⊥ }
 {}
 
-/// Bytes have at most one first fault, with one offset and one reason. In a stream, the geometries
-/// before the fault are determined too. After a stream, bytes with a first fault keep it; its
-/// offset grows by the length of the stream.
+/// Bytes have at most one first fault, with one offset and one reason. If blobs come before the
+/// fault, it and their geometries are determined too. If a stream is put before such bytes, they
+/// keep the fault: its offset grows by the length of the stream, and the geometries of the stream
+/// come first.
 pub fn one_fault()
     ensures blob { (limits : Allowance) (bytes : List ℕ) (o p : ℕ) (r s : Reason)
         → FirstFault limits bytes o r → FirstFault limits bytes p s → (o ≡ p) × (r ≡ s) }
@@ -123,8 +126,8 @@ pub fn completions()
 
 /// A part is a prefix of a valid geometry's items in which each size that can be checked is exact.
 /// The machine runs through some items, within the limits and with exact sizes, exactly if they are
-/// a part. The bytes that a reader has taken are those of a part, and so are the bytes of a blob.
-/// Bytes that begin with a part have no fault inside that part.
+/// a part. The bytes of the items that a reader has taken are those of a part, and so are the bytes
+/// of a blob. Bytes that begin with a part have no fault inside that part.
 pub fn parts()
     ensures items { (limits : Allowance) (before : List Item) → Part limits before
         ↔ ((st : Stack) × Ran limits before st) }
@@ -145,8 +148,14 @@ pub fn refusals()
         → RefusalsAre (FirstFault limits) limits before st }
 {}
 
-/// What holds of a reader that takes items one by one: at its start, after each item, at a blob's
-/// end, if bytes are missing, and if a number is too long.
+/// A reader that takes items one by one starts with no bytes. Then and after each item its count of
+/// bytes is exact, at most as many collections are open as the limits allow, and there is one frame
+/// for each open geometry, at most one more than that limit. An item that it expects leads it to
+/// its next state, past any ends that come with the item, or to the first fault: at the item if
+/// there is an objection to its number, after the item if a size is wrong. Once a geometry is
+/// finished, the bytes are a blob of it. If a number is expected and the bytes end inside it, or it
+/// is too long, the first fault is there. If an item with bytes is expected and none are left, the
+/// first fault is there, unless no byte came at all.
 pub fn reading()
     ensures starts { (limits : Allowance) → IsAllowance limits → Reached limits [] nothing started }
     ensures offset { (limits : Allowance) (bytes : List ℕ) (e : Sums) (st : Stack)
@@ -173,8 +182,9 @@ pub fn reading()
         → bytes ≢ [] → HasBytes role → FirstFault limits bytes e.bytes Truncated }
 {}
 
-/// The bytes of a stream alone determine the state of its reader, between two blobs and inside one.
-/// Between two blobs the bytes are a stream; inside a blob they are truncated.
+/// The bytes that a reader of a stream has taken determine the geometries so far and its state. It
+/// is inside no blob exactly if the bytes are a stream; inside a blob, the first fault is that they
+/// are truncated after the last complete item.
 pub fn standing()
     ensures starts { (limits : Allowance) (bytes : List ℕ) (gs : List Tree) → IsAllowance limits
         → Stream limits bytes gs → Stands limits bytes gs nothing started [] }
@@ -188,8 +198,9 @@ pub fn standing()
         → StreamFault limits bytes gs (length s.front + e.bytes) Truncated }
 {}
 
-/// The bytes of a blob determine its spans: one for each geometry, the first from the blob's start
-/// to its end. If the blob begins at another offset, only the offsets of the spans change.
+/// The bytes of a blob determine its spans: one for each geometry, the first that of the whole
+/// geometry, from the blob's start to its end. If the blob begins later, the offset of each span
+/// grows by as much, and nothing else changes.
 pub fn spans()
     ensures one_list { (limits : Allowance) (bytes : List ℕ) (g : Tree) (start : ℕ)
         (a b : Blob limits bytes g) → spans_of_blob start a ≡ spans_of_blob start b }
@@ -203,8 +214,10 @@ pub fn spans()
 {}
 
 /// A reader that notes spans while it takes items has noted the spans of the blob after the last
-/// item. What one more byte adds to the notes depends only on the reader's states before and after
-/// it.
+/// item. One more byte of a blob adds itself to the notes, if it is a type byte or a metadata byte,
+/// and then the ends of the geometries that end with it; after the last byte the notes are the
+/// spans of the blob. For this, an optional part that is expected at the byte must have a role that
+/// is not noted.
 pub fn noting()
     ensures whole { (limits : Allowance) (bytes : List ℕ) (g : Tree) (start : ℕ)
         (b : Blob limits bytes g) → noted start nothing no_notes b.items

@@ -62,7 +62,8 @@ fn bit_if(is_set: bool, position: u32) -> u8
 }
 
 impl Metadata {
-    /// Makes the metadata byte with the bits of these flags, and with all other bits 0.
+    /// Makes the metadata byte with the bits of these flags, and with all other bits 0. Takes no
+    /// memory.
     #[inline]
     pub fn of(flags: MetadataFlags) -> Metadata
         ensures number { result ≡ metadata_number flags }
@@ -80,7 +81,7 @@ impl Metadata {
         }
     }
 
-    /// The metadata byte that is this byte, whatever its bits.
+    /// The metadata byte that is this byte, whatever its bits. Takes no memory.
     #[inline]
     pub fn from_byte(byte: u8) -> Metadata
         ensures { result ≡ byte }
@@ -89,6 +90,7 @@ impl Metadata {
     }
 
     /// The metadata byte that is the lowest byte of a number: the number itself if it is below 256.
+    /// Takes no memory.
     #[inline]
     pub fn from_number(number: u64) -> Metadata
         ensures whole { number < 256 → result ≡ number }
@@ -99,7 +101,8 @@ impl Metadata {
         }
     }
 
-    /// The metadata byte of a geometry that has a body, and no ids and no optional parts: 0.
+    /// The metadata byte of a geometry that has a body, and no ids and no optional parts: 0. Takes no
+    /// memory.
     #[inline]
     pub fn plain() -> Metadata
         ensures { result ≡ 0 }
@@ -108,7 +111,7 @@ impl Metadata {
     }
 
     /// The metadata byte of a geometry that has a body and a size, and no ids and no other optional
-    /// part: 2.
+    /// part: 2. Takes no memory.
     #[inline]
     pub fn sized() -> Metadata
         ensures { result ≡ 2 }
@@ -116,7 +119,7 @@ impl Metadata {
         Metadata { byte: 1 << SIZE }
     }
 
-    /// The metadata byte as a number.
+    /// The metadata byte as a number. Takes no memory.
     #[inline]
     pub fn byte(self) -> u8
         ensures { result ≡ self }
@@ -133,7 +136,7 @@ impl Metadata {
         self.byte >> position & 1 == 1
     }
 
-    /// Whether a box follows in the header (bit 0).
+    /// Whether a box follows in the header (bit 0). Takes no memory.
     #[inline]
     pub fn has_box(self) -> bool
         ensures { result ≡ bit self 0 }
@@ -141,7 +144,7 @@ impl Metadata {
         self.has_bit(BOX)
     }
 
-    /// Whether a size follows in the header (bit 1).
+    /// Whether a size follows in the header (bit 1). Takes no memory.
     #[inline]
     pub fn has_size(self) -> bool
         ensures { result ≡ bit self 1 }
@@ -149,7 +152,7 @@ impl Metadata {
         self.has_bit(SIZE)
     }
 
-    /// Whether ids follow the count of members (bit 2).
+    /// Whether ids follow the count of members, if there are members (bit 2). Takes no memory.
     #[inline]
     pub fn has_ids(self) -> bool
         ensures { result ≡ bit self 2 }
@@ -157,7 +160,7 @@ impl Metadata {
         self.has_bit(IDS)
     }
 
-    /// Whether the extended dimensions byte follows (bit 3).
+    /// Whether the extended dimensions byte follows (bit 3). Takes no memory.
     #[inline]
     pub fn has_extended(self) -> bool
         ensures { result ≡ bit self 3 }
@@ -165,7 +168,7 @@ impl Metadata {
         self.has_bit(EXTENDED)
     }
 
-    /// Whether the geometry has no body (bit 4).
+    /// Whether the geometry has no body (bit 4). Takes no memory.
     #[inline]
     pub fn is_empty(self) -> bool
         ensures { result ≡ bit self 4 }

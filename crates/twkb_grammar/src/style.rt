@@ -1,8 +1,8 @@
 //! The two styles of a written blob.
 ghost use Rattle.std.specs.Prelude.{◌≡◌, ◌↔◌, true};
 
-/// Which parts a written blob has beside type byte, metadata byte and body (TWKB leaves it free;
-/// profile).
+/// Which parts a written blob has besides the type byte, the metadata byte and the body (TWKB
+/// leaves it free; profile).
 #[derive(Clone, Copy, Debug, PartialEq, Eq)]
 pub enum Style {
     /// Each geometry has its exact size, and a tight box if it may have one.
@@ -14,7 +14,8 @@ pub enum Style {
 impl Style {
     ghost use Rattle.twkb_grammar.specs.declared.style.Style.TheVariants.{Full};
 
-    /// Whether the style is `Full`: geometries have sizes, and boxes if they may have them.
+    /// Whether the style is `Full`: geometries have sizes, and boxes if they may have them. Takes no
+    /// memory.
     pub fn is_full(self) -> bool
         ensures { (result ≡ true) ↔ (self ≡ Full) }
     {

@@ -59,7 +59,7 @@ fn type_number(kind: Kind) -> u8
 impl TypeByte {
     /// Makes the type byte of a geometry of this kind and precision. A precision from -8 to 7 is
     /// read back as it was; of another, only the lowest four bits of the zigzag form are kept. For
-    /// a ring, which has no type, the lower half is 0.
+    /// a ring, which has no type, the lower half is 0. Takes no memory.
     #[inline]
     pub fn of(kind: Kind, precision: i8) -> TypeByte
         ensures number { result ≡ type_byte kind precision }
@@ -72,7 +72,7 @@ impl TypeByte {
         }
     }
 
-    /// The type byte that is this byte, whatever its bits.
+    /// The type byte that is this byte, whatever its bits. Takes no memory.
     #[inline]
     pub fn from_byte(byte: u8) -> TypeByte
         ensures { result ≡ byte }
@@ -80,7 +80,8 @@ impl TypeByte {
         TypeByte { byte }
     }
 
-    /// The type byte that is the lowest byte of a number: the number itself if it is below 256.
+    /// The type byte that is the lowest byte of a number: the number itself if it is below 256. Takes
+    /// no memory.
     #[inline]
     pub fn from_number(number: u64) -> TypeByte
         ensures whole { number < 256 → result ≡ number }
@@ -91,7 +92,7 @@ impl TypeByte {
         }
     }
 
-    /// The type byte as a number.
+    /// The type byte as a number. Takes no memory.
     #[inline]
     pub fn byte(self) -> u8
         ensures { result ≡ self }
@@ -99,7 +100,7 @@ impl TypeByte {
         self.byte
     }
 
-    /// Whether the lower half is the number of a type, 1 to 7.
+    /// Whether the lower half is the number of a type, 1 to 7. Takes no memory.
     #[inline]
     pub fn names_type(self) -> bool
         ensures { result ≡ names_type self }
@@ -108,7 +109,7 @@ impl TypeByte {
         number != 0 && number <= LAST_TYPE
     }
 
-    /// Whether the type is point.
+    /// Whether the type is point. Takes no memory.
     #[inline]
     pub fn is_point(self) -> bool
         ensures { result ≡ nat_eq (self % 16) 1 }
@@ -116,7 +117,8 @@ impl TypeByte {
         self.byte % HALF == POINT
     }
 
-    /// The kind that the lower half names, never `Ring`; `Collection` if it names no type.
+    /// The kind that the lower half names, never `Ring`; `Collection` if it names no type. Takes no
+    /// memory.
     #[inline]
     pub fn kind(self) -> Kind
         ensures { result ≡ shown (kind_at (self % 16)) }
@@ -133,7 +135,7 @@ impl TypeByte {
     }
 
     /// The number of decimals of the coordinates, -8 to 7, which the upper half spells in zigzag
-    /// form.
+    /// form. Takes no memory.
     #[inline]
     pub fn precision(self) -> i8
         ensures value { result ≡ unzigzag_of (self / 16) }

@@ -23,14 +23,14 @@ pub struct CountFull;
 impl Count {
     ghost use Rattle.twkb_io.specs.Bytes.{total_of};
 
-    /// Makes a count at 0.
+    /// Makes a count at 0. Takes no memory.
     pub fn new() -> Count
         ensures { total_of result ≡ 0 }
     {
         Count { total: 0 }
     }
 
-    /// The number of bytes taken, at most 2^62.
+    /// The number of bytes taken, at most 2^62. Takes no memory.
     pub fn total(&self) -> u64
         ensures total { result ≡ total_of self.now }
         ensures within { result ≤ MAX_BYTES }

@@ -20,7 +20,7 @@ pub struct Ending<R: Read> {
 impl<R: Read> Ending<R> {
     ghost use Rattle.twkb_io.specs.Taps.{has_ended, under};
 
-    /// Wraps a reader whose end was not seen yet. Reads nothing.
+    /// Wraps a reader whose end was not seen yet. Reads nothing, and takes no memory.
     pub fn new(reader: R) -> Ending<R>
         ensures reader { under result ≡ reader }
         ensures not_ended { has_ended result ≡ false }
@@ -31,7 +31,7 @@ impl<R: Read> Ending<R> {
         }
     }
 
-    /// Whether the end was seen: a read into a buffer with room gave no byte.
+    /// Whether the end was seen: a read into a buffer with room gave no byte. Takes no memory.
     pub fn has_ended(&self) -> bool
         ensures ended { result ≡ has_ended self.now }
         ensures at_end { result ≡ true → IsAtEnd (R.remaining (under self.now)) }
@@ -39,7 +39,7 @@ impl<R: Read> Ending<R> {
         self.ended
     }
 
-    /// Returns the reader underneath, as the reads left it.
+    /// Returns the reader underneath, as the reads left it. Takes no memory.
     pub fn into_inner(self) -> R
         ensures { result ≡ under self }
     {

@@ -47,7 +47,7 @@ impl<D> Fuse<D> {
 
     /// Makes a fuse that passes the first `bytes` bytes of its reads and writes, at most `step` in
     /// one call, and then answers each as `end` says. `step` must not be 0. A flush fails if
-    /// `flush_fails` is set; if not, it is passed on.
+    /// `flush_fails` is set; if not, it is passed on. Takes no memory.
     pub fn new(device: D, bytes: u64, step: usize, end: FuseEnd, flush_fails: bool) -> Fuse<D>
         requires { 0 < step }
         ensures device { fuse_device result ≡ device }
@@ -65,7 +65,7 @@ impl<D> Fuse<D> {
         }
     }
 
-    /// Returns the device that was passed to `new`, as the calls left it.
+    /// Returns the device that was passed to `new`, as the calls left it. Takes no memory.
     pub fn into_inner(self) -> D
         ensures { result ≡ fuse_device self }
     {

@@ -19,7 +19,7 @@ pub enum InFault {
     /// The reader failed in this call.
     #[error("read failed")]
     Read,
-    /// 2^62 bytes were given out, and the reader has more.
+    /// 2^62 bytes were given out, and the input has more.
     #[error("input too long")]
     TooLong,
     /// An earlier call returned an error.
@@ -53,7 +53,8 @@ impl<'a, R: Read> Input<'a, R> {
     ghost use Rattle.twkb_io.specs.Inputs.{input_failures, input_tap, is_read_fault, is_spent};
     ghost use Rattle.twkb_io.specs.Inputs.{rest_of};
 
-    /// Makes an input of all bytes that the tap's reader still gives. Reads nothing yet.
+    /// Makes an input of all bytes that the tap's reader still gives. Reads nothing yet, and takes
+    /// no memory.
     pub fn new(tap: &'a mut Tap<R>) -> Input<'a, R>
         ensures same_tap { (input_tap result).ghost_name ≡ tap.entry.ghost_name }
         ensures untouched { (input_tap result).now ≡ tap.old }
@@ -75,8 +76,8 @@ impl<'a, R: Read> Input<'a, R> {
     }
 
     /// Returns the next byte, or `None` at the end and in each call after it. Reads at most once,
-    /// and only if no byte is held and the end was not reached. After an `Err` each later call
-    /// returns `Spent`.
+    /// and only if no byte is held and the end was not reached. After an `Err` each later `next` or
+    /// `fill` returns `Spent`. Takes no memory itself.
     pub fn next(&mut self) -> Result<Option<u8>, InFault>
         ensures same_tap { (input_tap self.new).ghost_name ≡ (input_tap self.old).ghost_name }
         ensures gives { GivesNext (rest_of self.old) result (rest_of self.new) }
@@ -105,8 +106,9 @@ impl<'a, R: Read> Input<'a, R> {
         Ok(Some(byte))
     }
 
-    /// Reads once if no byte is held and the end was not reached; after `Ok`, `held` is empty only
-    /// at the end. After an `Err` each later call returns `Spent`.
+    /// Reads at most once, and only if no byte is held and the end was not reached; after `Ok`,
+    /// `held` is empty only at the end. Gives out no byte. After an `Err` each later `next` or
+    /// `fill` returns `Spent`. Takes no memory itself.
     #[inline(always)]
     pub fn fill(&mut self) -> Result<(), InFault>
         ensures same_tap { (input_tap self.new).ghost_name ≡ (input_tap self.old).ghost_name }
@@ -144,7 +146,7 @@ impl<'a, R: Read> Input<'a, R> {
     }
 
     /// The bytes that can be given out without a read: the unused part of the array, cut at 2^62
-    /// bytes in all.
+    /// bytes in all. Takes no memory.
     pub fn held(&self) -> &[u8]
         ensures held { result.now ≡ held_of self.now }
         ensures front { IfSome (rest_of self.now) (λ rest. StartsWith rest result.now) }
@@ -155,7 +157,8 @@ impl<'a, R: Read> Input<'a, R> {
         &unused[..count]
     }
 
-    /// Counts the first `count` bytes of `held` as given out; there must be that many.
+    /// Counts the first `count` bytes of `held` as given out; there must be that many. Takes no
+    /// memory.
     pub fn advance(&mut self, count: usize)
         requires { count ≤ length (held_of self.old) }
         ensures same_tap { input_tap self.new ≡ input_tap self.old }
@@ -169,7 +172,7 @@ impl<'a, R: Read> Input<'a, R> {
         self.offset += count as u64;
     }
 
-    /// The number of bytes given out, at most 2^62.
+    /// The number of bytes given out, at most 2^62. Takes no memory.
     pub fn offset(&self) -> u64
         ensures offset { result ≡ given self.now }
         ensures within { result ≤ MAX_BYTES }
@@ -178,7 +181,7 @@ impl<'a, R: Read> Input<'a, R> {
     }
 
     /// The number of failed calls that the borrowed tap has counted, also before this input was
-    /// made.
+    /// made. Takes no memory.
     pub fn failures(&self) -> u64
         ensures { result ≡ input_failures self.now }
     {

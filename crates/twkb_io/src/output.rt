@@ -40,7 +40,7 @@ pub struct Output<'a, W> {
 impl<'a, W> Output<'a, W> {
     ghost use Rattle.twkb_io.specs.Outputs.{is_spent, output_failures, output_tap, sent_of};
 
-    /// Makes an output that has sent nothing, to the tap's writer.
+    /// Makes an output that has sent nothing, to the tap's writer. Takes no memory.
     pub fn new(tap: &'a mut Tap<W>) -> Output<'a, W>
         ensures same_tap { (output_tap result).ghost_name ≡ tap.entry.ghost_name }
         ensures untouched { (output_tap result).now ≡ tap.old }
@@ -54,7 +54,7 @@ impl<'a, W> Output<'a, W> {
         }
     }
 
-    /// The number of bytes that the writer took from this output, at most 2^62.
+    /// The number of bytes that the writer took from this output, at most 2^62. Takes no memory.
     pub fn sent(&self) -> u64
         ensures sent { result ≡ sent_of self.now }
         ensures within { result ≤ MAX_BYTES }
@@ -63,7 +63,7 @@ impl<'a, W> Output<'a, W> {
     }
 
     /// The number of failed calls that the borrowed tap has counted, also before this output was
-    /// made.
+    /// made. Takes no memory.
     pub fn failures(&self) -> u64
         ensures { result ≡ output_failures self.now }
     {
@@ -76,7 +76,7 @@ impl<'a, W: Write> Output<'a, W> {
     ghost use Rattle.twkb_io.specs.Outputs.{Refused, Took, is_device, is_of_stuck, is_spent, output_tap, sent_of};
 
     /// Flushes the writer, once. After an `Err` each later put or flush returns `Spent`, and calls
-    /// the writer no more.
+    /// the writer no more. Takes no memory itself.
     pub fn flush(&mut self) -> Result<(), OutFault>
         ensures ok { OnOk result (Took W.contents self.old [] self.new) }
         ensures err { IfErr result (λ fault. Refused W.contents self.old [] fault self.new) }
@@ -99,9 +99,10 @@ impl<'a, W: Write> Output<'a, W> {
         Ok(())
     }
 
-    // Writes once, and returns the number of bytes that the writer took, at least one. There must
-    // be a byte to write, all bytes must keep `sent` within 2^62, and the output must not be spent;
-    // it is spent after an `Err`, and then the writer took none of the bytes.
+    // Writes once, and returns the number of bytes that the writer took, at least one, which it
+    // adds to `sent`. There must be a byte to write, all bytes must keep `sent` within 2^62, and
+    // the output must not be spent; it is spent after an `Err`, and then the writer took none of
+    // the bytes.
     fn send(&mut self, bytes: &[u8]) -> Result<usize, OutFault>
         requires fresh { is_spent self.old ≡ false }
         requires some { 0 < length bytes.now }
@@ -155,6 +156,7 @@ impl<'a, W: Write> Sink for Output<'a, W> {
     /// Sends the bytes, with as many writes as the writer needs, and no flush. After an `Err` the
     /// writer took a prefix of the bytes, which `sent` counts, and each later put or flush returns
     /// `Spent`. Bytes that would take `sent` past 2^62 are refused as `TooLong`, and none is sent.
+    /// Takes no memory itself.
     fn put(&mut self, bytes: &[u8]) -> Result<(), OutFault>
         ensures ok { OnOk result (Took W.contents self.old bytes.now self.new) }
         ensures err { IfErr result (λ fault. TookFront (Cut W.contents) self.old bytes.now fault self.new) }

@@ -18,7 +18,8 @@ pub trait Sink {
     // The number of bytes taken.
     ghost taken: { Self → ℕ };
 
-    /// Takes the bytes: all of them if it returns `Ok`, otherwise a prefix of them.
+    /// Takes the bytes: all of them if it returns `Ok`, otherwise a prefix of them. Some sinks take
+    /// memory for it.
     fn put(&mut self, bytes: &[u8]) -> Result<(), Self::Fault>
         ensures ok { OnOk result (took self.old bytes.now self.new) }
         ensures err { IfErr result (λ fault. TookFront refused self.old bytes.now fault self.new) };

@@ -7,9 +7,9 @@ use std::io;
 use std::io::{Read, Write};
 
 /// A reader or a writer with counts of its calls, of its flushes, of the calls that failed and of
-/// the bytes that it gave. It also knows whether it took bytes after its last flush, and whether
-/// its last write took none. Each read, write and flush is passed on once, and answered as the
-/// device answers it. Takes no memory itself.
+/// the bytes that it gave. It also knows whether it took bytes after the last flush that succeeded,
+/// and whether its last write had bytes and took none, without an error. Each read, write and flush
+/// is passed on once, and answered as the device answers it. Takes no memory itself.
 #[derive(Drop)]
 pub struct Tap<D> {
     device: D,
@@ -25,7 +25,7 @@ impl<D> Tap<D> {
     ghost use Rattle.twkb_io.specs.Taps.{bytes_given, calls_of, count_failure, device_of, failures_of, flushes_of};
     ghost use Rattle.twkb_io.specs.Taps.{has_unflushed, is_stuck, one_call};
 
-    /// Wraps a device, with all counts at 0.
+    /// Wraps a device, with all counts at 0. Takes no memory.
     pub fn new(device: D) -> Tap<D>
         ensures device { device_of result ≡ device }
         ensures calls { calls_of result ≡ 0 }
@@ -45,7 +45,8 @@ impl<D> Tap<D> {
         }
     }
 
-    /// The number of reads, writes and flushes passed on. The count stops at `u64::MAX`.
+    /// The number of reads, writes and flushes passed on. The count stops at `u64::MAX`. Takes no
+    /// memory.
     pub fn calls(&self) -> u64
         ensures { result ≡ calls_of self.now }
     {
@@ -53,28 +54,28 @@ impl<D> Tap<D> {
     }
 
     /// The number of calls that failed; a write of at least one byte that took none is one of them.
-    /// The count stops at `u64::MAX`.
+    /// The count stops at `u64::MAX`. Takes no memory.
     pub fn failures(&self) -> u64
         ensures { result ≡ failures_of self.now }
     {
         self.failures
     }
 
-    /// The number of bytes that the reads gave. The count stops at `u64::MAX`.
+    /// The number of bytes that the reads gave. The count stops at `u64::MAX`. Takes no memory.
     pub fn given(&self) -> u64
         ensures { result ≡ bytes_given self.now }
     {
         self.given
     }
 
-    /// Whether a write took bytes after the last flush that succeeded.
+    /// Whether a write took bytes after the last flush that succeeded. Takes no memory.
     pub fn has_unflushed(&self) -> bool
         ensures { result ≡ has_unflushed self.now }
     {
         self.unflushed
     }
 
-    /// Returns the device, as the calls left it.
+    /// Returns the device, as the calls left it. Takes no memory.
     pub fn into_inner(self) -> D
         ensures { result ≡ device_of self }
     {

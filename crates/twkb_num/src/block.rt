@@ -8,9 +8,9 @@ use std::simd::u8x16;
 /// The number of units in a block.
 pub const BLOCK: usize = 64;
 
-/// A word with bit k set if byte k ends a varint, for the first 63 bytes, and for none from the
-/// first padded varint on (TWKB specification; LEB128). The word is 0 if there are fewer than 64
-/// bytes. Takes no memory.
+/// A word with bit k set if byte k ends a varint of any length, for the first 63 bytes, and for
+/// none from the first padded varint on (TWKB specification; LEB128). The word is 0 if there are
+/// fewer than 64 bytes. Takes no memory.
 #[inline(always)]
 pub fn varint_ends(bytes: &[u8]) -> u64
     ensures ends { AreEnds 0 128 bytes.now result }
@@ -19,10 +19,10 @@ pub fn varint_ends(bytes: &[u8]) -> u64
     block_ends(bytes, VARINTS)
 }
 
-/// A word with bit k set if character k ends a number of a polyline, for the first 63 characters,
-/// and for none from the first that is outside the alphabet, or the first padded number, on
-/// (Encoded Polyline Algorithm Format). The word is 0 if there are fewer than 64 characters. Takes
-/// no memory.
+/// A word with bit k set if character k ends a number of a polyline, of any length, for the first
+/// 63 characters, and for none from the first that is outside the alphabet, or the first padded
+/// number, on (Encoded Polyline Algorithm Format). The word is 0 if there are fewer than 64
+/// characters. Takes no memory.
 #[inline(always)]
 pub fn character_ends(text: &[u8]) -> u64
     ensures ends { AreEnds 63 32 text.now result }
@@ -104,8 +104,9 @@ fn before_fault(marks: Marks) -> u64
     marks.ends % (1 << faults.trailing_zeros())
 }
 
-// The bits of the first 63 units that end a number, up to the first fault (`before_fault`); 0 if
-// there are fewer than 64 units.
+// The bits of the first 63 units that end a number, before the first fault (`before_fault`); 0 if
+// there are fewer than 64 units. The alphabet's `most` must be 2 * `radix` - 1, and its greatest
+// unit must fit a byte.
 #[inline(always)]
 fn block_ends(bytes: &[u8], alphabet: Alphabet) -> u64
     requires bound { alphabet.most + 1 ≡ 2 * alphabet.radix }
@@ -119,8 +120,9 @@ fn block_ends(bytes: &[u8], alphabet: Alphabet) -> u64
     before_fault(sixty_four(bytes, alphabet))
 }
 
-// The bits of the first sixteen units that end a number, up to the first fault (`before_fault`); 0
-// if there are fewer than sixteen units.
+// The bits of the first sixteen units that end a number, before the first fault (`before_fault`); 0
+// if there are fewer than sixteen units. The alphabet's `most` must be below 2 * `radix`, and its
+// greatest unit must fit a byte.
 #[inline(always)]
 pub(crate) fn few_ends(bytes: &[u8], alphabet: Alphabet) -> u64
     requires bound { alphabet.most < 2 * alphabet.radix }

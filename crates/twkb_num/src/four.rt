@@ -16,7 +16,7 @@ use crate::groups::Numbered;
 use crate::places::two_in_front;
 use std::simd::{u8x16, u16x8, u32x4, u64x2};
 
-/// Four signed numbers in the order of their spellings, and the number of bytes that spell them.
+/// Four signed numbers, and the number of bytes that spell them.
 #[derive(Clone, Copy, Debug, PartialEq, Eq)]
 pub struct Four {
     pub first: i64,
@@ -26,9 +26,10 @@ pub struct Four {
     pub used: usize,
 }
 
-/// Fast path: reads the four signed numbers whose zigzag forms are spelled from `start` on, each in
-/// its shortest spelling of at most four units. `None` proves nothing about the bytes: it is also
-/// the answer for fewer than sixteen, and for fewer than six from `start` on. Takes no memory.
+/// Fast path: reads the four signed numbers whose zigzag forms are spelled one after the other from
+/// `start` on, each in its shortest spelling of at most four units. `None` proves nothing about the
+/// bytes: it is also the answer for fewer than sixteen, and for fewer than six from `start` on.
+/// Takes no memory.
 #[inline(always)]
 pub fn four_at<G: Numbered>(bytes: &[u8], start: usize) -> Option<Four>
     ensures { IfSome result (SignedInFront G.unit_of G.ALPHABET.radix (drop start bytes.now)) }
@@ -49,9 +50,10 @@ pub fn four_at<G: Numbered>(bytes: &[u8], start: usize) -> Option<Four>
 }
 
 /// Fast path: reads four signed numbers, as `four_at` does, from the start of at least sixteen
-/// bytes. `ends` must be what `varint_ends` or `character_ends` returns for the bytes, or a part of
-/// it up to some byte; `ends >> used` is the same for the bytes after the four numbers. `None`
-/// proves nothing about the bytes. Takes no memory.
+/// bytes. `ends` must have a bit for each byte that ends a number, the first byte's lowest, up to
+/// some byte before which all are in the alphabet and none pads a number: `varint_ends` and
+/// `character_ends` return such bits. `ends >> used` has them for the bytes after the four numbers.
+/// `None` proves nothing about the bytes. Takes no memory.
 #[inline(always)]
 pub fn four_by_ends<G: Numbered>(bytes: &[u8], ends: u64) -> Option<Four>
     requires long { 16 ≤ length bytes.now }
@@ -75,9 +77,9 @@ const MOST_SKIPPED: usize = WINDOW - 6;
 const EACH_PLACE: u64 = 0x0101_0101_0101_0101;
 
 // Reads four signed numbers, as `four_at` does, after the first `skipped` of at least sixteen
-// bytes, of exactly sixteen unless `skipped` is 0. Bit 0 of `ends` must say whether the first byte
-// after the skipped ones ends a number, and so on up to some byte. `None` proves nothing about the
-// bytes.
+// bytes, of exactly sixteen unless `skipped` is 0. `ends` must have the bits that `four_by_ends`
+// needs, for the bytes after the skipped ones; `ends >> used` has them for the bytes after the four
+// numbers. The radix of the alphabet must be 32 or 128. `None` proves nothing about the bytes.
 #[inline(always)]
 fn four_by(bytes: &[u8], skipped: u32, ends: u64, alphabet: Alphabet) -> Option<Four>
     requires known { IsRadix alphabet.radix }

@@ -37,7 +37,7 @@ pub(crate) fn as_varints(first: u32, second: u32, third: u32, fourth: u32) -> Fo
     spelled(first, second, third, fourth, VARINTS)
 }
 
-// Spells four numbers, each below 2^20, by the characters of a polyline, one to four each.
+// Spells four numbers, each below 2^20, by the fewest characters of a polyline, one to four each.
 #[inline(always)]
 pub(crate) fn as_characters(first: u32, second: u32, third: u32, fourth: u32) -> FourUnits
     requires first_small { first < 2 ^ 20 }
@@ -49,8 +49,8 @@ pub(crate) fn as_characters(first: u32, second: u32, third: u32, fourth: u32) ->
     spelled(first, second, third, fourth, POLYLINES)
 }
 
-// Spells four numbers by the units of an alphabet, one to four each. Each number must be below the
-// fourth power of the radix, which must be 32 or 128, and each unit must fit a byte.
+// Spells four numbers by the fewest units of an alphabet, one to four each. Each number must be
+// below the fourth power of the radix, which must be 32 or 128, and each unit must fit a byte.
 #[inline(always)]
 fn spelled(first: u32, second: u32, third: u32, fourth: u32, alphabet: Alphabet) -> FourUnits
     requires known { IsRadix alphabet.radix }

@@ -18,7 +18,7 @@ pub trait Groups {
 
     ghost BITS: { ℕ };
 
-    /// The number of units in the longest spelling, that of 2^64 - 1.
+    /// The most units in a spelling: as many as 2^64 - 1 needs.
     const MAX_LEN: usize;
 
     ghost MAX_LEN: { ℕ };

@@ -78,8 +78,8 @@ pub fn varints()
     ensures begun { (bytes : List ℕ) → IsOpenVarint bytes ↔ IsOpen leb_unit 128 10 bytes }
 {}
 
-/// A byte is refused as `TooLong` exactly if it is above 1 and comes after nine bytes of a varint,
-/// each with its top bit set.
+/// After at most nine bytes of a varint, each with its top bit set, a byte is refused as `TooLong`
+/// exactly if they are nine and it is above 1.
 pub fn long_varints()
     ensures { (us : List ℕ) (u : ℕ) → IsOpenVarint us → u < 256
         → IsAnswer leb_unit leb_group 128 10 us u TooLong ↔ ((length us ≡ 9) × (2 ≤ u)) }

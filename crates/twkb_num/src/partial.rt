@@ -38,7 +38,8 @@ impl<G: Groups> Partial<G> {
         }
     }
 
-    /// The number of units held, 0 to `G::MAX_LEN - 1`. Takes no memory.
+    /// The number of units held, 0 to `G::MAX_LEN - 1`; they begin a spelling and do not end it.
+    /// Takes no memory.
     pub fn len(&self) -> usize
         ensures count { result ≡ length self.now }
         ensures short { result < G.MAX_LEN }
@@ -48,8 +49,8 @@ impl<G: Groups> Partial<G> {
     }
 
     /// Takes the next unit, which may be any byte, and says whether the spelling goes on, ends with
-    /// it, or is refused. After any answer but `More` the reader holds no unit, and can begin
-    /// another spelling. Takes no memory.
+    /// it, or is refused. After `More` the reader holds this unit too; after any other answer it
+    /// holds no unit, and can begin another spelling. Takes no memory.
     pub fn step(&mut self, unit: u8) -> Step
         ensures answer { IsAnswer G.unit_of G.group_of (2 ^ G.BITS) G.MAX_LEN self.old unit result }
         ensures held { self.new ≡ held_after self.old unit result }

@@ -138,9 +138,10 @@ impl<const ROOM: usize> Piece<ROOM> {
         self.push_eight(four.units.extract::<0, 8>(), four.low);
     }
 
-    /// Appends the characters of four numbers, each below 2^20, with no branch on their lengths
-    /// (Encoded Polyline Algorithm Format). The piece must have room for sixteen bytes: two stores
-    /// write eight each, and those past the characters are not counted. Takes no memory.
+    /// Appends the shortest spellings of four numbers, each below 2^20, in characters, with no
+    /// branch on their lengths (Encoded Polyline Algorithm Format). The piece must have room for
+    /// sixteen bytes: two stores write eight each, and those past the characters are not counted.
+    /// Takes no memory.
     #[inline(always)]
     pub fn push_four_characters(&mut self, first: u32, second: u32, third: u32, fourth: u32)
         requires first_small { first < 2 ^ 20 }

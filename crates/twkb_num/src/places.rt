@@ -11,8 +11,9 @@ pub(crate) struct Two {
     pub(crate) used: u32,
 }
 
-// The places of the units of the first two numbers, by a bit for each unit that ends a number;
-// `None` if the first eight units do not end two numbers of at most four units each.
+// The places of the units of the first two numbers. `ends` has a bit for each unit that ends a
+// number, the first unit's lowest. `None` if the first eight units do not end two numbers of at
+// most four units each.
 #[inline(always)]
 pub(crate) fn two_in_front(ends: u64) -> Option<Two>
     ensures { IfSome result (λ two. (marks : List Bool) → ends ≡ mask_l marks → AreTwo marks two.places two.used) }

@@ -14,10 +14,10 @@ use std::simd::{u8x16, u64x2};
 // The number of characters in a word.
 const WORD: usize = 8;
 
-/// Fast path: reads the two signed numbers that are a whole polyline text, if each has a shortest
-/// spelling of at most eight characters and neither is 0 (Encoded Polyline Algorithm Format).
-/// `None` proves nothing about the text: it is also the answer for fewer than eight or more than
-/// sixteen characters. Takes no memory.
+/// Fast path: reads the two signed numbers that are a whole polyline text, if each is in its
+/// shortest spelling of at most eight characters and neither is 0 (Encoded Polyline Algorithm
+/// Format). `None` proves nothing about the text: it is also the answer for fewer than eight or
+/// more than sixteen characters. Takes no memory.
 #[inline(always)]
 pub fn two_in_text(text: &[u8]) -> Option<(i64, i64)>
     ensures spelled { IfSome result (λ r. text.now
@@ -43,7 +43,7 @@ pub fn two_in_text(text: &[u8]) -> Option<(i64, i64)>
 /// Fast path: reads the first two signed numbers of a polyline text, as `two_in_text` reads those
 /// of a whole text, and returns them and the number of their characters. `None` proves nothing
 /// about the text: it is also the answer for a text of fewer than sixteen characters, and for two
-/// numbers of fewer than eight. Takes no memory.
+/// numbers of fewer than eight together. Takes no memory.
 #[inline(always)]
 pub fn first_two(text: &[u8]) -> Option<(i64, i64, usize)>
     ensures within { IfSome result (λ r. r.2 ≤ length text.now) }
@@ -57,8 +57,8 @@ pub fn first_two(text: &[u8]) -> Option<(i64, i64, usize)>
 }
 
 // The number of characters of the first two numbers of a text; `None` if they do not end in its
-// first sixteen characters, or if it has fewer. A character below 63 counts as the end of a number,
-// though it is outside the alphabet.
+// first sixteen characters, or if it has fewer. A character outside the alphabet counts too: as the
+// end of a number if it is below 63, and otherwise as one that goes on.
 #[inline(always)]
 fn second_end(text: &[u8]) -> Option<usize>
     ensures { IfSome result (λ end. end ≤ length text.now) }

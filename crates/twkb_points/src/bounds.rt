@@ -133,8 +133,8 @@ impl Bounds {
     }
 }
 
-/// The least bounds that hold both; the one if only one is there; `None` if neither is. Takes no
-/// memory.
+/// The least bounds that hold two bounds; if only one is there, that one; `None` if neither is.
+/// Takes no memory.
 pub fn merged(a: Option<Bounds>, b: Option<Bounds>) -> Option<Bounds>
     ensures { result ≡ joined_options a b }
 {

@@ -34,9 +34,10 @@ pub struct Eight {
 }
 
 /// Fast path: reads two points from `start` on, the first as its step from `from` and the second as
-/// its step from the first, and returns them and the number of their bytes. `None` proves nothing
-/// about the bytes: it is also the answer for fewer than sixteen, for fewer than six from `start`
-/// on, and for a number of five units or more. Takes no memory.
+/// its step from the first, and returns them and the number of their bytes. `start` must be at most
+/// the number of bytes. `None` proves nothing about the bytes: it is also the answer for fewer than
+/// sixteen, for fewer than six from `start` on, and for a number of five units or more. Takes no
+/// memory.
 #[inline(always)]
 pub fn two_points<C: StepCode>(from: Pt, bytes: &[u8], start: usize) -> Option<(Pt, Pt, usize)>
     requires { start ≤ length bytes.now }
@@ -50,8 +51,9 @@ pub fn two_points<C: StepCode>(from: Pt, bytes: &[u8], start: usize) -> Option<(
 
 // Reads two points as `two_points` does, from the start of at least sixteen bytes, by a bit for
 // each byte that ends a number, as in `eight_points`. `from` must be at most 6 * 2^27 from an inner
-// point in x and in y, so that the range needs no test. `ends`, shifted right by the number of
-// bytes returned, are those of the bytes that remain.
+// point in x and in y, so that the range needs no test; the second point is at most 2 * 2^27
+// farther away than `from`. `ends`, shifted right by the number of bytes returned, are those of the
+// bytes that remain.
 #[inline(always)]
 fn two_by<C: StepCode>(from: Pt, bytes: &[u8], ends: u64) -> Option<(Pt, Pt, usize)>
     requires near { IsNear 6 from }

@@ -29,7 +29,8 @@ pub fn extent_by_bounds()
     ensures { (ps : List Point) (e : Extent) → (extent ps ≡ Some e) ↔ IsExtentOf e ps }
 {}
 
-/// The extent of two lists, one after the other, is the join of their extents.
+/// The extent of two lists, one after the other, is the join of their extents. If one list is
+/// empty, it is the extent of the other, or none.
 pub fn extents_join()
     ensures { (ps qs : List Point) → extent (ps ++ qs) ≡ joined_options (extent ps) (extent qs) }
 {}

@@ -15,8 +15,8 @@ pub trait StepCode: Numbered {
     /// than it saves.
     const TESTS_FOURTH: bool;
 
-    /// Two steps, each with x before y, from four numbers in the order in which the code spells
-    /// them. Takes no memory.
+    /// Makes two steps, each with x before y, from four numbers in the order in which the code
+    /// spells them. The number of bytes stays the same. Takes no memory.
     fn x_first(four: Four) -> Four
         ensures steps { (bytes : List ℕ) → SignedInFront Self.unit_of Self.ALPHABET.radix bytes four
             → TwoInFront bytes_of bytes result.first result.second result.third result.fourth result.used }

@@ -16,7 +16,7 @@ pub trait PointList {
     fn count(&self) -> usize
         ensures { result ≡ length (points self.now) };
 
-    /// The point at place `at`, from 0. Takes no memory.
+    /// The point at place `at`, which must be from 0 to `count` - 1. Takes no memory.
     fn point(&self, at: usize) -> Pt
         requires { at < length (points self.now) }
         ensures { result ≡ get_or (points self.now) at origin };

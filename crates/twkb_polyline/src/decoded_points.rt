@@ -34,8 +34,8 @@ pub fn decode(alloc: Global, text: &[u8], max: u32) -> Result<Vec<Pt>, PolyFault
 }
 
 /// Decodes a polyline of at most `max` points, as `decode` does, and appends the points to a list,
-/// whose earlier points are neither read nor counted. After an `Err` the list is as it was. Takes
-/// memory for the points alone.
+/// whose earlier points are not read and do not count toward `max`. After an `Err` the list is as
+/// it was. Takes memory for the points alone.
 pub fn decode_into<L: PointTail>(text: &[u8], max: u32, points: &mut L) -> Result<(), PolyFault>
     ensures decodes { OnOk result (AppendsDecoded text.now max (L.held points.old) (L.held points.new)) }
     ensures refuses { IfErr result (IsRefused text.now max) }
@@ -61,8 +61,8 @@ pub fn decode_one(text: &[u8]) -> Option<Pt>
     one_by_one(text)
 }
 
-// Decodes a polyline of exactly one point, number by number; `None` for any other text. Out of
-// line: most texts of one point have at least eight characters.
+// Decodes a polyline of exactly one point, of any length; `None` for any other text. Out of line:
+// most texts of one point have eight to sixteen characters, and `only_point` reads them.
 #[inline(never)]
 fn one_by_one(text: &[u8]) -> Option<Pt>
     ensures point { IfSome result (λ point. DecodesTo text.now 1 (point ∷ [])) }
@@ -145,9 +145,10 @@ fn apart(has_found: bool) -> usize
     if has_found { APART } else { FAR_APART }
 }
 
-// Fast path: appends points from `start` on, eight at a time and at most `room`, as long as
-// `eight_points` finds them, and moves the cursor to the last one. Returns the offset where the
-// text goes on. If memory is refused, the points read before stay in the list.
+// Fast path: appends points from `start` on, which must not be past the end of the text, eight at a
+// time and at most `room`, as long as `eight_points` finds them, and moves the cursor to the last
+// one. Returns the offset where the text goes on. If memory is refused, the points read before stay
+// in the list, and nothing is known of the cursor.
 #[inline(never)]
 fn read_eights<L: PointTail>(
     text: &[u8],
@@ -184,7 +185,7 @@ fn read_eights<L: PointTail>(
 
 // Reads the point whose latitude begins at `start`, where text must be left, as its step from the
 // cursor. Moves the cursor to the point, and returns the point and the offset where the text goes
-// on. An `Err` is the point's first fault, at its offset in the text.
+// on. An `Err` is the point's first fault, at its offset in the text; then the cursor stays.
 #[inline(always)]
 fn next_point(text: &[u8], start: usize, cursor: &mut Cursor) -> Result<(Pt, usize), PolyFault>
     requires { start < length text.now }

@@ -80,9 +80,10 @@ fn put_pairs(pairs: &[[Pt; 2]], cursor: &mut Cursor, text: &mut Vec<u8>) -> Resu
     flush(&mut piece, text)
 }
 
-// Appends the characters of two points to the piece, the first as its step from the cursor, and
-// moves the cursor to the second. If the piece has too little room, its characters are first moved
-// to the text; if memory for that is refused, the two points are not appended.
+// Appends the characters of two points to the piece, the first as its step from the cursor and the
+// second as its step from the first, and moves the cursor to the second. If the piece has too
+// little room, its characters are first moved to the text; if memory for that is refused, the two
+// points are not appended, and the cursor moves nevertheless.
 #[inline(always)]
 fn push_pair(
     cursor: &mut Cursor,

@@ -70,6 +70,7 @@ pub enum PolyFault {
     },
 }
 
+// The fault to report for a growth that was refused.
 impl From<AllocError> for PolyFault {
     ghost use Rattle.twkb_polyline.specs.declared.fault.PolyFault.TheVariants.{Memory};
 

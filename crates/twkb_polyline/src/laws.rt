@@ -14,7 +14,7 @@ pub fn distinct_lists()
     ensures { (ps qs : List Point) → polyline ps ≡ polyline qs → ps ≡ qs }
 {}
 
-/// A text with a fault is no polyline of points in range, at most `max` of them.
+/// With the same `max`, a text with a fault is no polyline of at most `max` points in range.
 pub fn no_polyline()
     ensures { (text : List ℕ) (max offset : ℕ) (reason : PolyReason) (ps : List Point) →
         IsTextFault text max offset reason → DecodesTo text max ps → ⊥ }
@@ -26,7 +26,7 @@ pub fn one_fault()
         IsTextFault text max o r → IsTextFault text max p s → (o ≡ p) × (r ≡ s) }
 {}
 
-/// Each text is a polyline of at most `max` points in range, or it has a fault.
+/// With the same `max`, each text is a polyline of at most `max` points in range, or has a fault.
 pub fn polyline_or_fault()
     ensures { (text : List ℕ) (max : ℕ) → ((ps : List Point) × DecodesTo text max ps) ⊎
         ((offset : ℕ) × (reason : PolyReason) × IsTextFault text max offset reason) }
@@ -40,8 +40,8 @@ pub fn too_long_numbers()
 {}
 
 /// Checks by computation that the definition of polylines gives the texts printed on the format's
-/// page, and the texts that the format's steps give by hand at the ends of the range of
-/// coordinates.
+/// page, and the text that the format's steps give by hand for two points, at both ends of the
+/// range of x.
 pub fn samples()
     ensures number { number_text (negsuc 17998320) ≡ codes "`~oia@" }
     ensures example { polyline (point_at (negsuc 12019999) (pos 3850000) ∷ point_at (negsuc 12094999) (pos 4070000)

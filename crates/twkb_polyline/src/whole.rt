@@ -13,9 +13,9 @@ use twkb_points::{Cursor, Pt};
 // The shift of a thirteenth group, the last that a number may have.
 const LAST_SHIFT: u32 = 12 * CHARACTER_BITS;
 
-// Reads the point whose latitude begins at `start`, as its step from the cursor, moves the cursor
-// to the point, and returns the point and the offset where it ends. `None` proves nothing about the
-// text, and the cursor stays.
+// Reads the point whose latitude begins at `start`, which must not be past the end of the text, as
+// its step from the cursor, moves the cursor to the point, and returns the point and the offset
+// where it ends. `None` proves nothing about the text, and the cursor stays.
 #[inline(always)]
 pub(crate) fn whole_point(text: &[u8], start: usize, cursor: &mut Cursor) -> Option<(Pt, usize)>
     requires { start ≤ length text.now }
@@ -60,8 +60,9 @@ pub(crate) fn only_point(text: &[u8]) -> Option<Pt>
     Some(point)
 }
 
-// The group of a character that says that more follow; `None` for any other byte. By its range:
-// with `Five::from_unit` in its place, `pack` of multipolygons takes 1 in 1000 more instructions.
+// The group of a character that says that more follow; `None` for any other byte. It tests the
+// byte's range: with `Five::from_unit` instead, `pack` of multipolygons takes 1 in 1000 more
+// instructions.
 #[inline(always)]
 fn open_group(unit: u8) -> Option<u64>
     ensures { IfSome result (λ group. five_group unit ≡ Some (group, true)) }

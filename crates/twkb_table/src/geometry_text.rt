@@ -1,5 +1,6 @@
-//! The rows of a geometry as text, written by the writer of `csv`. Each private function must get a
-//! writer that is between two records, and that is not used any more after an `Err`.
+//! The rows of a geometry as text, written by the writer of `csv`. Each private function takes
+//! memory, and must get a writer that is between two records, and that is not used any more after
+//! an `Err`.
 ghost use Rattle.std.specs.Prelude.{◌≡◌, ◌≤◌, ◌<◌, ◌+◌, ◌^◌, ◌∷◌, [], ◌++◌, map, OnOk, OnErr, IfOk};
 ghost use Rattle.twkb_tree.specs.Limits.{largest_limits};
 ghost use Rattle.twkb_tree.specs.Tree.{nest, nest_all, trees};
@@ -42,7 +43,7 @@ pub fn put_rows(geometry: &Geometry, text: &mut Vec<u8>) -> Result<(), AllocErro
 }
 
 // Writes the records of a geometry with this id at this depth, and of its parts and members below
-// it. Its depth and its nesting must together be below 2^31. Takes memory.
+// it. Its depth and its nesting must together be below 2^31.
 #[cycle(lines)]
 fn write_geometry(
     geometry: &Geometry,
@@ -92,7 +93,7 @@ fn write_part(
 }
 
 // Writes the records of the members of a collection, with these ids, at this depth, and of all that
-// is below them. The depth and the nesting of the members must together be at most 2^31.
+// is below them. The depth and the collection's nesting must together be at most 2^31.
 #[cycle(lines)]
 #[tactic(auto, using(twkb_tree::specs::Size::member_smaller))]
 fn write_members(

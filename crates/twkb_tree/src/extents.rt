@@ -23,9 +23,9 @@ impl Members {
 }
 
 impl Geometry {
-    /// The smallest box that holds all points of the geometry, members' points included; `None` if
-    /// it has no points (TWKB, bounding box; profile: what it spans in a collection). Takes no
-    /// memory.
+    /// The smallest box that holds all points of the geometry, members' points included, with their
+    /// coordinates as they are, whatever the precision; `None` if it has no points (TWKB, bounding
+    /// box; profile: what it spans in a collection). Takes no memory.
     #[cycle(bounds)]
     pub fn bounds(&self) -> Option<Bounds>
         ensures { result ≡ extent (flat self.now) }

@@ -1,4 +1,5 @@
-//! Laws of the rows of geometries, each stated as the contract of an empty function.
+//! Laws of the rows of geometries, each stated as the contract of an empty function. What a clause
+//! calls valid, accepted or refused is so under the same limits, whatever they are.
 ghost use Rattle.std.specs.Prelude.{◌≡◌, ◌↔◌, ◌<◌, ◌≤◌, ◌+◌, ◌++◌, ◌∷◌, [], List, length, reverse, true, None};
 ghost use Rattle.twkb_tree.specs.declared.open_rows.OpenRow.{OpenRow};
 ghost use Rattle.twkb_tree.specs.Limits.{Allowance, IsValid};
@@ -31,8 +32,9 @@ pub fn one_reading()
 {}
 
 /// A geometry's rows continue below its root: if the rows of one geometry begin with all rows of
-/// another, the next row is no root. If the next row is a root, or there is none, the rows so far
-/// are those of a complete geometry.
+/// another, the next row is no root. If the rows of a list of geometries begin with all rows of a
+/// geometry, and the next row is a root, or there is none, the list begins with that geometry, and
+/// the other rows are those of the rest of the list.
 pub fn ends()
     ensures below { (g h : Tree) (r : Row) (more : List Row) → IsTree g → IsTree h
         → rows 0 g ++ r ∷ more ≡ rows 0 h → 0 < r.depth }
@@ -42,7 +44,7 @@ pub fn ends()
 {}
 
 /// Each prefix of rows of geometries is rows of geometries. The same is true of valid geometries,
-/// and of one valid geometry.
+/// and of one valid geometry if the prefix has a row.
 pub fn fronts()
     ensures geometries { (front more : List Row) → AreRows (front ++ more) → AreRows front }
     ensures valid { (l : Allowance) (front more : List Row) → AreValidRows l (front ++ more) → AreValidRows l front }
@@ -57,9 +59,10 @@ pub fn depths()
 
 // ---- when a row may come next
 
-/// By the rules of a table without its limits, a row may come after rows of geometries exactly if
-/// the rows with it are rows of geometries. It may come after rows of one geometry, and is no
-/// second root, exactly if the rows with it are rows of one geometry.
+/// By the rules of a table, except its limits and the range of coordinates, a row may come after
+/// rows of geometries exactly if the rows with it are rows of geometries. After rows of one
+/// geometry, or none, it may come and is no second root exactly if the rows with it are rows of one
+/// geometry.
 pub fn admitted()
     ensures list { (rs : List Row) (r : Row) → AreRows rs → (admits rs r ≡ true) ↔ AreRows (rs ++ r ∷ []) }
     ensures one { (rs : List Row) (r : Row) → AreRowsOfOne rs
@@ -67,8 +70,9 @@ pub fn admitted()
 {}
 
 /// Rows are accepted one by one exactly if they are rows of valid geometries. After rows of valid
-/// geometries one more is accepted exactly if rows of valid geometries begin with those rows and
-/// that one.
+/// geometries one more is accepted exactly if the rows with it are rows of valid geometries, and
+/// exactly if rows of valid geometries begin with those rows and that one. After any rows, the test
+/// `accepts` holds exactly if the next row is accepted.
 pub fn accepted()
     ensures one_by_one { (l : Allowance) (rs : List Row) → AreAccepted l (reverse rs) ↔ AreValidRows l rs }
     ensures next { (l : Allowance) (rs : List Row) (r : Row) → AreValidRows l rs
@@ -78,8 +82,10 @@ pub fn accepted()
     ensures test { (l : Allowance) (rs : List Row) (r : Row) → (accepts l rs r ≡ true) ↔ Accepts l (reverse rs) r }
 {}
 
-/// After rows of one valid geometry a row continues it exactly if the rows with it are rows of
-/// one valid geometry.
+/// After rows of one valid geometry, or after none, a row continues them exactly if the rows with
+/// it are rows of one valid geometry. After any rows, the test `continues` holds exactly if the
+/// next row continues them. After rows of one geometry, or none, the rows so far of the geometry
+/// that a row belongs to are all rows so far, if the row is a root exactly when it is the first.
 pub fn continued()
     ensures next { (l : Allowance) (rs : List Row) (r : Row) → AreValidRowsOfOne l rs
         → Continues l rs r ↔ AreValidRowsOfOne l (rs ++ r ∷ []) }
@@ -88,8 +94,8 @@ pub fn continued()
         → geometry_rows r.depth (reverse rs) ≡ reverse rs }
 {}
 
-/// An accepted root begins a new geometry; any other accepted row is one more row of the last
-/// geometry.
+/// An accepted root begins a new geometry, which is valid with this row alone. After rows of valid
+/// geometries, any other accepted row is one more row of the last geometry, which is valid with it.
 pub fn grows()
     ensures root { (l : Allowance) (gs : List Tree) (r : Row) → Accepts l (reverse (rows_of gs)) r
         → r.depth ≡ 0 → (h : Tree) × IsValid l h × (rows 0 h ≡ r ∷ []) }
@@ -113,8 +119,11 @@ pub fn refused()
         → (¬ Accepts l (reverse rs) r) → ¬ AreValidRows l (rs ++ r ∷ more) }
 {}
 
-/// The open rows are kept up to date row by row, and with two counts they decide why a row is
-/// refused.
+/// Before any row no row is open, and a row that skips no depth changes the open rows as `opened`
+/// states. A row and its points are added to the numbers of rows and points since the last root,
+/// which begin at 0 for a root; after accepted rows both numbers are within the limits. The open
+/// rows and these two numbers decide why a row is refused and, after rows of one geometry or none,
+/// whether it continues them.
 pub fn open_rows()
     ensures none { AreOpen [] [] }
     ensures more { (before : List Row) (os : List OpenRow) (r : Row)
@@ -156,7 +165,8 @@ pub fn accepted_tables()
 {}
 
 /// Checks by computation that rows of worked tables are refused, each at its place and for its
-/// reason.
+/// reason; and that nine nested collections are accepted at eight levels, and a member of the
+/// innermost at sixteen.
 pub fn refused_tables()
     ensures ids_on_some { IdsOnSome }
     ensures no_level { NoLevel }

@@ -77,8 +77,8 @@ impl Limits {
         }
     }
 
-    /// The most collections that a member may be in, 0 to 32: a collection inside that many may
-    /// have no members. Takes no memory.
+    /// The most collections that a member may be in, 0 to 32: a collection inside that many cannot
+    /// have members. Takes no memory.
     pub fn nest(&self) -> u32
         ensures value { result ≡ self.now.nest }
         ensures sound { IsAllowance self.now }

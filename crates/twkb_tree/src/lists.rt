@@ -26,7 +26,7 @@ pub trait Element: Drop {
         ensures { IsTrue result ↔ (self.now ≡ other.now) };
 
     /// Makes an element equal to this one. A list takes memory for its elements; an `Err` says that
-    /// it was refused.
+    /// memory was refused.
     fn copy(&self, alloc: Global) -> Result<Self, AllocError>
         ensures { IfOk result (λ copy. copy ≡ self.now) };
 }

@@ -4,7 +4,8 @@ ghost use Rattle.twkb_tree.specs.Open.{first_answer};
 
 use crate::kind::Kind;
 
-/// A row that may still get children. A reader keeps one for each depth, the root first.
+/// The last row at its depth, which may be the parent of the next row. A reader keeps one for each
+/// depth, the root first.
 #[derive(Clone, Copy, Debug, PartialEq, Eq)]
 pub struct OpenRow {
     /// The row's kind.
@@ -27,7 +28,7 @@ impl OpenRow {
 }
 
 impl Default for OpenRow {
-    /// A point's row, which fills the unused places of a list.
+    /// A point's row without children, which fills the unused places of a list. Takes no memory.
     fn default() -> OpenRow
         ensures { result ≡ record { kind = Kind.Point; child_ids = None } }
     {

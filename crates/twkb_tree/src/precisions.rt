@@ -37,7 +37,7 @@ impl Geometry {
     }
 
     /// Whether each member of a collection in the geometry, at any depth, has the precision of the
-    /// geometry (profile: if not, a blob has no box). Takes no memory.
+    /// geometry (profile: if not, a written blob has no box). Takes no memory.
     pub fn uniform(&self) -> bool
         ensures { result ≡ uniform self.now }
     {

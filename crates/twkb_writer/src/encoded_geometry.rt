@@ -26,8 +26,8 @@ pub enum EncodeFault<F> {
 }
 
 /// Writes the canonical blob of a geometry, which must be within `Limits::largest()`, in a style.
-/// On `Ok` the sink got exactly the blob; on `Err` it got a prefix of it, which is empty if memory
-/// was refused. Takes memory for a copy of the rows and the points, and for the sizes.
+/// On `Ok` the sink got exactly the blob; on `Err` it got a prefix of it, which is empty if the
+/// `Err` is `Memory`. Takes memory for a copy of the rows and the points, and for the sizes.
 pub fn encode_styled<S: Sink>(
     alloc: Global,
     geometry: &Geometry,

@@ -7,8 +7,8 @@ ghost use Rattle.twkb_grammar.specs.declared.style.Style.{Style};
 ghost use Rattle.twkb_writer.specs.declared.sizes.Entry.{Entry};
 ghost use Rattle.twkb_writer.specs.Sizes.{AreSizes};
 
-/// The sizes of a geometry have one entry for each of its TWKB geometries: itself, and the members
-/// of each collection in it.
+/// In each style, the sizes of a geometry have one entry for each of its TWKB geometries: itself,
+/// and the members of each collection in it.
 pub fn one_size_each()
     ensures { (style : Style) (g : Tree) (flat : List Row) (sizes : List Entry) → IsTree g
         → rows 0 g ≡ flat → AreSizes style flat sizes → length sizes ≡ geometries g }

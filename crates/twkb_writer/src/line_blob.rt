@@ -89,7 +89,7 @@ fn put_line_lead<S: Sink>(
 /// Writes the canonical blob of the line through a list's points, which must be at most 2^24, in a
 /// style and for a precision from -8 to 7; after an `Err` the sink got a prefix of it. Counts one
 /// node, one entry and the points as measured, and two reads of each point. The bytes go through
-/// the piece, whatever it holds. Takes no memory.
+/// the piece, whatever it holds. Takes no memory itself.
 #[inline(always)]
 pub fn write_line<L: PointList, S: Sink>(
     precision: i8,

@@ -59,7 +59,7 @@ fn row_entry(flat: &Flat, style: Style, node: &Node, precision: i8, work: &mut W
 }
 
 // Replaces all entries by this one, in place if there is just one. Takes memory for it if the
-// vector has no room.
+// vector has no room; after an `Err` there are no entries.
 #[inline(always)]
 fn keep_alone(entries: &mut Vec<Entry>, entry: Entry) -> Result<(), AllocError>
     ensures { OnOk result (entries.new.items ≡ entry ∷ []) }
@@ -73,7 +73,8 @@ fn keep_alone(entries: &mut Vec<Entry>, entry: Entry) -> Result<(), AllocError>
 }
 
 // Measures a flat form, which must have one row, in a style, and replaces the entries by its entry.
-// Reads the node and each point once. Takes memory for the entry if the vector has no room.
+// Reads the node and each point once. Takes memory for the entry if the vector has no room; after
+// an `Err` there are no entries.
 #[inline(always)]
 pub(crate) fn measure_one(
     flat: &Flat,

@@ -11,7 +11,8 @@ pub(crate) trait PlacedPoints {
     // The points.
     ghost points: { Self → List Point };
 
-    // The point at a place. Adds one to `work.point_reads`. Takes no memory.
+    // The point at place `at`, from 0, which must be below the number of points. Adds one to
+    // `work.point_reads`. Takes no memory.
     fn point(&self, at: u32, work: &mut Work) -> Pt
         requires { at < length (points self.now) }
         ensures point { slice_get (points self.now) at ≡ Some result }

@@ -51,7 +51,7 @@ fn put_point(precision: i8, point: Pt, style: Style, piece: &mut Piece)
 /// Writes the canonical blob of a point that is not empty, in a style and for a precision from -8
 /// to 7, by one put; after an `Err` the sink got a prefix of it. Counts one point, one node and one
 /// entry as measured, and no reads. The bytes go through the piece, whatever it holds. Takes no
-/// memory.
+/// memory itself.
 #[inline(always)]
 pub fn write_point<S: Sink>(
     precision: i8,

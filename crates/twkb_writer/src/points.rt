@@ -12,7 +12,7 @@ use twkb_points::Cursor;
 
 // Puts the differences in x and in y from the cursor to a node's first own point, and on from each
 // to the next, and moves the cursor to the last. The node's points must be among `all`, at places
-// below 2^32. Reads each once, two at a time.
+// below 2^32 - 1. Reads each once, two at a time.
 #[inline(always)]
 pub(crate) fn put_points<P: PlacedPoints, S: Sink>(
     all: &P,

@@ -8,7 +8,7 @@ use twkb_points::Bounds;
 // The numbers of a TWKB geometry that are needed before its header can be written.
 #[derive(Clone, Copy)]
 pub(crate) struct Entry {
-    // The number of bytes after the size up to the geometry's end: box and body.
+    // The number of bytes of its box and body: all that comes after the size, if there is a size.
     pub(crate) size: u64,
     // The bounds of all its points, if it has a box.
     pub(crate) bounds: Option<Bounds>,

@@ -17,9 +17,9 @@ use twkb_grammar::Style;
 use twkb_io::Sink;
 
 /// Writes the canonical blob of a flat form in a style; `sizes` must be its sizes in that style.
-/// Without rows the sink gets nothing, and after an `Err` it got a prefix of the blob. Counts only
-/// reads: each point at most once, each node at most twice. The bytes go through the piece,
-/// whatever it holds. Takes no memory.
+/// Without rows it returns `Ok`, and the sink gets nothing; after an `Err` the sink got a prefix of
+/// the blob. Counts only reads: each point at most once, each node at most twice. The bytes go
+/// through the piece, whatever it holds. Takes no memory itself.
 pub fn write_through<S: Sink>(
     flat: &Flat,
     style: Style,
@@ -60,8 +60,9 @@ pub fn write_through<S: Sink>(
 }
 
 /// Writes the canonical blob of a flat form in a style; `sizes` must be its sizes in that style.
-/// Without rows the sink gets nothing, and after an `Err` it got a prefix of the blob. Counts only
-/// reads: each point at most once, each node at most twice. Takes no memory.
+/// Without rows it returns `Ok`, and the sink gets nothing; after an `Err` the sink got a prefix of
+/// the blob. Counts only reads: each point at most once, each node at most twice. Takes no memory
+/// itself.
 pub fn write_flat<S: Sink>(
     flat: &Flat,
     style: Style,
