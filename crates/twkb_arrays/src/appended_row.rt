@@ -16,9 +16,9 @@ use twkb_tree::Limits;
 const POINTS_MISSING: u32 = 71;
 
 // Appends a row of an array, with as many of the points ahead as it names, to the form of its
-// geometry, and returns the number of these points. The form must have valid rows of one geometry,
-// and none if the row is a root. An `Err` is want of memory, or the number of the first reason to
-// refuse the row, and leaves the form as it was.
+// geometry, and returns the number of these points. The form must have the rows of one geometry
+// within the limits, or none; none if the row is a root. Takes memory. An `Err` is want of memory,
+// or the number of the first reason to refuse the row, and leaves the form as it was.
 #[inline(always)]
 pub(crate) fn push_judged(
     limits: Limits,

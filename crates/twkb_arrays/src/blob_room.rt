@@ -111,7 +111,8 @@ impl BlobRoom {
         )
     }
 
-    // The bytes of the blob that was made last; none if none was made.
+    // The bytes of the blob that was made last; none before the first one. Nothing is known of them
+    // if making a blob failed since.
     #[inline(always)]
     pub(crate) fn blob(&self) -> &[u8]
         ensures { result.now ≡ blob_in self.now }

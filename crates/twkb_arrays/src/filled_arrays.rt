@@ -39,7 +39,8 @@ pub struct BufferCounts {
 }
 
 // The status, the reason and the place to report for a reading with this result: status 4 if memory
-// was refused, else 5 if an array had too little room (`full`), else 1 with the refusal, or 0.
+// was refused or the session was spent, else 5 if an array had too little room (`full`), else 1
+// with the refusal, or 0.
 fn outcome(full: bool, answer: Result<(), BlobFault>) -> (u32, u32, u64)
     ensures { result ≡ outcome_of full answer }
 {
@@ -73,10 +74,11 @@ fn counted(taken: &Taken, answer: Result<(), BlobFault>) -> BufferCounts
     }
 }
 
-// Reads on from the offset `used`, up to the end of a geometry, which is taken into the arrays, or
-// to the end of the bytes; returns the offset after what was read. The session must have read
-// exactly the bytes before `used`, at least one byte must be left, and the arrays must have what
-// `taken` says. An `Err` is the fault of the bytes, or want of memory.
+// Reads on from the offset `used`, up to the end of a geometry, which `take_geometry` takes or only
+// counts, or to the end of the bytes; returns the offset after what was read. The session must have
+// read exactly the bytes before `used`, without an error, at least one byte must be left, and the
+// arrays must have what `taken` says. Takes memory. An `Err` is the fault of the bytes, or want of
+// memory; then nothing is taken or counted.
 #[inline(always)]
 fn read_next(
     blobs: &[u8],
@@ -111,8 +113,8 @@ fn read_next(
 }
 
 // Reads blobs through a session to their end, or to a fault or want of memory, which is the `Err`,
-// and takes each geometry into the arrays. The session must be new, and nothing may be taken
-// before.
+// and takes or only counts each geometry before it, as `take_geometry` does. The session must be
+// new, and nothing may be taken before. Takes memory.
 fn read_all(
     blobs: &[u8],
     session: &mut Session,
@@ -139,8 +141,8 @@ fn read_all(
 /// TWKB; rows: profile), each with the number of its points, and the points of all rows in one
 /// list. A blob that is refused, as one past the limits is, stops it after the geometries before
 /// it. A geometry for which an array has too little room is not written, nor is any after it, but
-/// all are counted. Places of the arrays after what is written are unchanged. Takes memory for one
-/// geometry.
+/// all are counted: status 5, even if a later blob is refused. Places of the arrays after what is
+/// written are unchanged. Takes memory for one geometry.
 pub fn read_arrays(
     alloc: Global,
     blobs: &[u8],

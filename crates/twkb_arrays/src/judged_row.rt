@@ -88,8 +88,8 @@ pub(crate) fn bare_row(row: &BufferRow, kind: Kind) -> Row
     }
 }
 
-// A coordinate plus 2^62: below 2^63 if the coordinate is in range, -2^62 to 2^62 - 1, and 2^63 or
-// more if not.
+// A coordinate plus 2^62, modulo 2^64: below 2^63 if the coordinate is in range, -2^62 to 2^62 - 1,
+// and 2^63 or more if not.
 #[inline(always)]
 fn above_least(coordinate: i64) -> u64
     ensures { (result < 2 ^ 63) ↔ IsCoordinate coordinate }
@@ -97,8 +97,8 @@ fn above_least(coordinate: i64) -> u64
     coordinate.cast_unsigned().wrapping_add(COORDINATE_BOUND)
 }
 
-// Both coordinates of a point plus 2^62: each is below 2^63 if it is in range, and 2^63 or more if
-// not.
+// Both coordinates of a point plus 2^62, modulo 2^64: each sum is below 2^63 if its coordinate is
+// in range, and 2^63 or more if not.
 #[inline(always)]
 fn both_above_least(point: &BufferPoint) -> u64x2
     ensures two { length result ≡ 2 }
@@ -176,7 +176,8 @@ fn refused_points(
 }
 
 // The first reason why a row with these points may not come at this place, within the limits;
-// `None` if it may, or if the only reason is that a point is out of range.
+// `None` if it may, or if the only reason is that a point is out of range. The row's depth is taken
+// to be that of the place.
 #[inline(always)]
 pub(crate) fn refused_row(
     limits: &Limits,

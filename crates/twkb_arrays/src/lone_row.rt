@@ -21,8 +21,8 @@ const POINT: u16 = 1;
 const LINESTRING: u16 = 2;
 
 // Whether a row is a root with a precision from -8 to 7 and no id, and names no more points than
-// are ahead and than the limits allow. So it begins a geometry, if its kind may have so many
-// points, and all are in range.
+// are ahead and than the limits allow. So it begins a geometry, if its kind is one of a geometry
+// and may have so many points, and all are in range.
 #[inline(always)]
 fn begins_alone(limits: Limits, row: &BufferRow, ahead: &[BufferPoint]) -> bool
     ensures { result ≡ true → BeginsAlone limits row.now ahead.now }
@@ -58,8 +58,8 @@ fn begins_line(limits: Limits, row: &BufferRow, ahead: &[BufferPoint]) -> bool
 }
 
 // Makes the blob of the linestring that a row begins, if all its points are in range, and returns
-// their number; else `None`. For the row `begins_line` must be true. An `Err` is want of memory;
-// after it nothing is known of the blob in `room`.
+// their number; else `None`. For the row `begins_line` must be true. Takes memory. An `Err` is want
+// of memory; after it nothing is known of the blob in `room`.
 #[inline(always)]
 fn make_line(
     limits: Limits,
@@ -82,8 +82,9 @@ fn make_line(
 }
 
 // Makes the blob of a row that is a root and a point or a linestring, as a geometry that has no
-// other row, and returns the number of its points. `None` proves nothing about the row. An `Err` is
-// want of memory. After a `None` or an `Err` nothing is known of the blob in `room`.
+// other row, and returns the number of its points. `None` proves nothing about the row. Takes
+// memory. An `Err` is want of memory. After a `None` or an `Err` nothing is known of the blob in
+// `room`.
 #[inline(always)]
 fn make_row(
     limits: Limits,
@@ -115,8 +116,8 @@ fn is_before_root(rows: &[BufferRow]) -> bool
 
 // Fast path: makes the blob of the first row if that is a point or a linestring and a whole
 // geometry, since the second row is a root; returns the number of its points. `None` proves nothing
-// about the row. An `Err` is want of memory. After a `None` or an `Err` nothing is known of the
-// blob in `room`.
+// about the row. Takes memory. An `Err` is want of memory. After a `None` or an `Err` nothing is
+// known of the blob in `room`.
 #[inline(always)]
 pub(crate) fn make_first(
     limits: Limits,

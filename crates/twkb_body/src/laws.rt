@@ -116,11 +116,11 @@ pub fn admitting()
         → AtPoint (Outlined limits) (λ bytes e o change rs. Admits change rs) }
 {}
 
-/// If a point is expected (inside a list, at the end of lists, or at the end of a geometry), and its
-/// two numbers lead to a point in range, both may be taken at once. The sums, the outline and the
-/// rows are then those after one number and then the other (`taken`), and the notes of spans are
-/// those before them (`noted`). A point that goes into an existing row goes into that of a line or
-/// ring (`takes`).
+/// If a point is expected (inside a list, at the end of lists, or at the end of a geometry), and
+/// its two numbers lead to a point in range, both may be taken at once. The sums, the outline and
+/// the rows are then those after one number and then the other (`taken`), and the notes of spans
+/// are those before them (`noted`). A point that goes into an existing row goes into that of a line
+/// or ring (`takes`).
 pub fn points()
     ensures taken { (limits : Allowance) → AtPoint (Outlined limits)
         (λ bytes e o change rs. Outlined limits bytes e o (applied change rs)) }

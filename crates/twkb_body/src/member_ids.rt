@@ -109,7 +109,8 @@ impl MemberIds {
         !self.has_ids || !self.ids.is_empty()
     }
 
-    /// The id of the open member; `None` if members have no ids, or none is left. Takes no memory.
+    /// The id of the open member, or before `begin` the last id that was read; `None` if members
+    /// have no ids, or none is left. Takes no memory.
     #[inline(always)]
     pub fn first(&self) -> Option<i64>
         ensures { result ≡ first_id (ids_of self.now) }
@@ -124,8 +125,8 @@ impl MemberIds {
         Some(self.ids[left - 1])
     }
 
-    /// Drops the id of the open member, if it has one, so that the next member is the open one.
-    /// Takes no memory.
+    /// Drops the id of the open member, if it has one, so that the next member is the open one;
+    /// before `begin`, the last id that was read. Takes no memory.
     #[inline(always)]
     pub fn advance(&mut self)
         ensures ids { ids_of self.new ≡ other_ids (ids_of self.old) }

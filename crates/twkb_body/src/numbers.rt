@@ -51,7 +51,7 @@ pub(crate) fn short_number(bytes: &[u8]) -> Option<(u64, usize)>
 }
 
 // Reads a varint of any length at the start of the bytes, byte by byte. It is called when
-// `short_number` does not suffice, which is rare.
+// `short_number` does not suffice for it or for the other number of its point, which is rare.
 #[cold]
 #[inline(never)]
 pub(crate) fn long_number(bytes: &[u8]) -> FrontNumber

@@ -62,7 +62,8 @@ pub fn put_point(
     }
 }
 
-/// The own row of the geometry with this header, without points. Takes no memory.
+/// The own row of the geometry with this header, whose kind must not be `Ring`, without points.
+/// Takes no memory.
 #[inline]
 pub fn own_row(head: &Head) -> Row
     requires { IsTyped head.now.kind }
@@ -91,7 +92,7 @@ fn component_row(depth: u32, kind: Kind, id: Option<i64>) -> Row
 
 /// The row, without points, of a list of points in the geometry with this header: a ring of a
 /// polygon or multipolygon, the member with the id `member` of a multilinestring, and else the
-/// geometry itself, which must not be a collection. Takes no memory.
+/// geometry itself. Its kind must not be `Collection` or `Ring`. Takes no memory.
 #[inline]
 pub fn line_row(head: &Head, member: Option<i64>) -> Row
     requires { IsBodied head.now.kind }
@@ -107,8 +108,8 @@ pub fn line_row(head: &Head, member: Option<i64>) -> Row
 }
 
 /// The row, without points, of a list of rings in the geometry with this header: the member with
-/// the id `member` of a multipolygon, and else the geometry itself, which must not be a collection.
-/// Takes no memory.
+/// the id `member` of a multipolygon, and else the geometry itself. Its kind must not be
+/// `Collection` or `Ring`. Takes no memory.
 #[inline]
 pub fn ring_list_row(head: &Head, member: Option<i64>) -> Row
     requires { IsBodied head.now.kind }

@@ -6,7 +6,7 @@ use Rattle.std.proofs.Common.{◌<◌, drop, set, min, eqb, if◌then◌else◌}
 use Rattle.twkb_convert.specs.declared.report.ConvertFault.{ConvertFault}
 use Rattle.twkb_convert.specs.declared.report.Report.{Report}
 use Rattle.twkb_table.proofs.FieldLemmas.{head_same, tail_same}
-use Rattle.twkb_buffer.specs.Calls.{Answers, Ends, Fills, Stops, sent_of, IsRefusal, refused_length, whole_length_of}
+use Rattle.twkb_buffer.specs.Calls.{Answers, Ends, Fills, Stops, IsRefusal, refused_length, whole_length_of}
 use Rattle.twkb_buffer.specs.Calls.{Counts, Measures, MeasuresBy, count_of, Finished, HasLength, Stopped}
 use Rattle.twkb_buffer.specs.Slices.{buffer_of, filled_of, held, ListedFront, ListedSlice, PackedFront, PackedSlice}
 use Rattle.twkb_buffer.specs.declared.filler.Filler.{Filler}
@@ -89,12 +89,6 @@ moved_back borrowed started ended given bytes first last none appends =
     subst (λ (f : Filler). Appends (held f) (held ended) bytes) first appends in
     filled borrowed given bytes none (subst (λ (f : Filler). Appends (held borrowed) (held f) bytes) (sym last) added)
 
--- an answer counts the bytes written
-pub sent_is : (Ended : Ends) (Halted : Stops) (answer : Result Report ConvertFault) (bytes : List ℕ)
-    → Answers Ended Halted bytes answer → sent_of answer ≡ length bytes
-sent_is Ended Halted (Ok report) bytes agrees = agrees.1
-sent_is Ended Halted (Err fault) bytes agrees = agrees.1
-
 -- a fact about the bytes written is one about the start of a slice
 at_start : (Fact : List ℕ → Type 0) (n : ℕ) (bytes slice : List ℕ) → n ≡ length bytes
     → take (length bytes) slice ≡ bytes → Fact bytes
@@ -117,9 +111,6 @@ fills Ended Halted (Err fault) bytes slice agrees within front = record {
   agrees = at_start (λ written. Halted written fault.done fault.cause) fault.sent bytes slice
       agrees.1 front agrees.0;
 }
-
--- ==== The length of the whole output, as an answer counts it and as the report of a call that
--- measures gives it.
 
 -- ==== The length of the whole output, as an answer counts it.
 

@@ -9,10 +9,10 @@ use twkb_points::COORDINATE_BOUND;
 // The weight of the lowest bit of the exponent, and of a significand's leading bit.
 pub(crate) const LEADING_BIT: u64 = 1 << 52;
 
-// The numbers that eleven bits have.
+// The number of values that the eleven bits of an exponent have.
 const EXPONENTS: u64 = 1 << 11;
 
-// The bits of a number from this one on have its sign set.
+// A double has its sign bit set if its number is this one or greater.
 const SIGN_BIT: u64 = 1 << 63;
 
 // The exponent of an infinity, and of what is no number.
@@ -25,8 +25,8 @@ pub(crate) fn exponent_field(number: u64) -> u64
     (number / LEADING_BIT) % EXPONENTS
 }
 
-// The significand of a double as a whole number below 2^53: the size of a finite double is its
-// significand times 2^(exponent - 1075).
+// The significand of a double as a whole number below 2^53, and at least 2^52 if the double's
+// `exponent` is above 1. A finite double's size is its significand times 2^(`exponent` - 1075).
 pub(crate) fn significand(number: u64) -> u64
     ensures value { result ≡ significand number }
     ensures fits { result < 2 ^ 53 }
@@ -40,8 +40,8 @@ pub(crate) fn significand(number: u64) -> u64
     }
 }
 
-// The exponent of a double plus 1075: 1 or more, and below 2^11. The size of a finite double is its
-// significand times 2^(exponent - 1075).
+// The exponent of a double's significand, with 1075 added: 1 or more, and below 2^11. The size of a
+// finite double is its significand times 2^(result - 1075).
 pub(crate) fn exponent(number: u64) -> u64
     ensures value { result ≡ exponent number }
     ensures fits { result < 2 ^ 11 }
@@ -49,7 +49,7 @@ pub(crate) fn exponent(number: u64) -> u64
     exponent_field(number).max(1)
 }
 
-// The coordinate that has this size and the sign of a double. The size must be at most 2^62.
+// The whole number that has this size and the sign of a double. The size must be at most 2^62.
 pub(crate) fn signed(number: u64, size: u64) -> i64
     requires { size ≤ COORDINATE_BOUND }
     ensures { result ≡ with_sign number size }
@@ -70,9 +70,5 @@ pub(crate) fn with_sign(number: u64, size: u64) -> Option<i64>
         return None;
     }
     let unit = signed(number, size);
-    if unit < COORDINATE_BOUND as i64 {
-        Some(unit)
-    } else {
-        None
-    }
+    (unit < COORDINATE_BOUND as i64).then_some(unit)
 }

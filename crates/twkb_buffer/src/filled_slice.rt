@@ -1,6 +1,6 @@
 //! Conversions from a slice into a slice.
-ghost use Rattle.std.specs.Prelude.{◌≡◌, ◌≢◌, ◌↔◌, ◌<◌, length, true};
-ghost use Rattle.twkb_buffer.specs.Calls.{Fills, sent_of, FillsOutput, Finished, Stopped};
+ghost use Rattle.std.specs.Prelude.{◌≡◌, ◌≢◌, ◌<◌};
+ghost use Rattle.twkb_buffer.specs.Calls.{Fills, FillsOutput, Finished, Stopped};
 ghost use Rattle.twkb_buffer.specs.Slices.{buffer_of, filled_of};
 
 use crate::filler::Filler;
@@ -12,8 +12,9 @@ use std::mem;
 use twkb_convert::{Conversion, ConvertFault, Limits, Report, Tap, convert};
 
 // Converts a slice into the slice of a filler, which must have filled nothing, as far as there is
-// room. During the call the filler belongs to the tap; then it is moved back, so that the caller
-// can prove that it still holds the same borrow.
+// room. Returns the result of the conversion, `WriteDevice` if the room ended. During the call the
+// filler belongs to the tap; then it is moved back, so that the caller can prove that it still
+// holds the same borrow. Takes memory.
 fn run_into(
     alloc: Global,
     what: Conversion,
@@ -22,7 +23,6 @@ fn run_into(
     limits: Limits,
 ) -> Result<Report, ConvertFault>
     requires { filled_of filler.old ≡ 0 }
-    ensures filled { filled_of filler.new ≡ sent_of result }
     ensures same_borrow { (buffer_of filler.new).ghost_name ≡ (buffer_of filler.old).ghost_name }
     ensures fills { Fills (Finished what limits input.now) (Stopped what limits input.now)
         (buffer_of filler.new).now result }
@@ -35,40 +35,36 @@ fn run_into(
 }
 
 // Converts a slice into another, from its start on and as far as there is room. Returns the result
-// of the conversion, `WriteDevice` if the room ended, and whether the other slice is full.
+// of the conversion, `WriteDevice` if the room ended. Takes memory.
 fn fill_front(
     alloc: Global,
     what: Conversion,
     input: &[u8],
     output: &mut [u8],
     limits: Limits,
-) -> (Result<Report, ConvertFault>, bool)
-    ensures fills { Fills (Finished what limits input.now) (Stopped what limits input.now) output.new result.0 }
-    ensures full { (result.1 ≡ true) ↔ (sent_of result.0 ≡ length output.new) }
+) -> Result<Report, ConvertFault>
+    ensures fills { Fills (Finished what limits input.now) (Stopped what limits input.now) output.new result }
 {
     let mut filler = Filler::new(output);
-    let answer = run_into(alloc, what, input, &mut filler, limits);
-    (answer, filler.is_full())
+    run_into(alloc, what, input, &mut filler, limits)
 }
 
-// The report with `needed` set to `whole`, the length of the whole output, if the slice is full and
-// `whole` is more than its room; else to 0. A length that is not known is 0.
-fn with_needed(report: BufferReport, whole: u64, is_full: bool, room: usize) -> BufferReport
+// The report with `needed` set to `whole`, the length of the whole output, if as many bytes were
+// sent as there is room for, and `whole` is more; else to 0. A length that is not known is 0. Takes
+// no memory.
+fn with_needed(report: BufferReport, whole: u64, room: usize) -> BufferReport
     ensures same { result ≡ record report { needed = result.needed } }
-    ensures only { result.needed ≢ 0 → (is_full ≡ true) × (room < result.needed) × (result.needed ≡ whole) }
-    ensures known { is_full ≡ true → room < whole → result.needed ≡ whole }
+    ensures only { result.needed ≢ 0 → (report.sent ≡ room) × (room < result.needed) × (result.needed ≡ whole) }
+    ensures known { report.sent ≡ room → room < whole → result.needed ≡ whole }
 {
-    let needed = if is_full && whole > room as u64 {
-        whole
-    } else {
-        0
-    };
+    let is_known = report.sent == room as u64 && whole > report.sent;
+    let needed = if is_known { whole } else { 0 };
     BufferReport { needed, ..report }
 }
 
 /// Converts a slice into another, from its start on and as far as there is room. If there is too
 /// little, reports status 5, and converts again without an output, to report the size needed, or 0
-/// if that is not known. Takes memory for one geometry.
+/// if that is not known. Takes memory for one geometry, and for its text or one record.
 pub fn fill(
     alloc: Global,
     what: Conversion,
@@ -79,9 +75,8 @@ pub fn fill(
     ensures { FillsOutput what limits input.now output.new result }
 {
     let room = output.len();
-    let (answer, is_full) = fill_front(alloc, what, input, output, limits);
-    let fault = match answer {
-        Ok(report) => return finished(report),
+    let fault = match fill_front(alloc, what, input, output, limits) {
+        Ok(report) => return finished(report.geometries, report.bytes),
         Err(fault) => fault,
     };
     let report = stopped(fault);
@@ -89,5 +84,5 @@ pub fn fill(
         return report;
     }
     let whole = measure(alloc, what, input, limits);
-    with_needed(report, whole.needed, is_full, room)
+    with_needed(report, whole.needed, room)
 }

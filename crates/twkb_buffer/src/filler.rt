@@ -1,5 +1,5 @@
 //! A writer into a slice.
-ghost use Rattle.std.specs.Prelude.{◌≡◌, ◌≤◌, ◌↔◌, ◌+◌, ◌++◌, ◌⊎◌, length, take, drop, false, true, is_err, IfOk};
+ghost use Rattle.std.specs.Prelude.{◌≡◌, ◌≤◌, ◌+◌, ◌++◌, ◌⊎◌, length, take, drop, false, is_err, IfOk};
 ghost use Rattle.std.specs.Io.{WritesAtMost};
 ghost use Rattle.std.specs.Io.KnownBytes.{Keeps, WriteAppends};
 
@@ -24,13 +24,6 @@ impl<'a> Filler<'a> {
         ensures filled { filled_of result ≡ 0 }
     {
         Filler { buffer, filled: 0 }
-    }
-
-    // Whether the whole slice is filled.
-    pub(crate) fn is_full(&self) -> bool
-        ensures { (result ≡ true) ↔ (filled_of self.now ≡ length (buffer_of self.now).now) }
-    {
-        self.filled == self.buffer.len()
     }
 }
 

@@ -1,7 +1,6 @@
 //! Whole numbers nearest to fractions. If two are equally near, the result is the smaller one if
 //! `less` is 1, and the greater one if it is 0; `less` must be one of these.
-ghost use Rattle.std.specs.Prelude.{◌+◌, ◌-◌, ◌*◌, ◌%◌, ◌^◌, ◌<◌, ◌≤◌, SomeIff};
-ghost use Rattle.twkb_points.specs.declared.point.TheConstants.{COORDINATE_BOUND};
+ghost use Rattle.std.specs.Prelude.{◌+◌, ◌-◌, ◌*◌, ◌%◌, ◌^◌, ◌<◌, ◌≤◌};
 ghost use Rattle.twkb_buffer.specs.RoundedNumbers.{FindsNearest, IsNearest};
 
 use twkb_points::COORDINATE_BOUND;
@@ -9,8 +8,8 @@ use twkb_points::COORDINATE_BOUND;
 // The exponent of a number that counts whole ones.
 const WHOLE: u64 = 1075;
 
-// The low bits of a number, which are multiplied apart from the others: a product with all of them
-// may have 78 bits.
+// How many low bits of a number are multiplied apart from the others: a product with all bits may
+// have 78 bits.
 const LOW_BITS: u64 = 27;
 
 // A product over a power of two of more places than these is less than a half.
@@ -23,7 +22,8 @@ const MOST_QUOTIENT_PLACES: u64 = 64;
 // beyond all coordinates.
 const GREATEST_POWER: u64 = 10;
 
-// Likewise if it is then divided.
+// A number with the leading bit of a significand that is multiplied by a greater power of two, and
+// then divided by at most 10^8, is beyond all coordinates.
 const GREATEST_QUOTIENT_POWER: u64 = 36;
 
 // The whole number nearest to `above / below`. `below` must be 1 to 2^27, and `2 * above + below`
@@ -38,22 +38,9 @@ fn rounded_quotient(above: u64, below: u64, less: u64) -> u64
     (2 * above + below - less) / (2 * below)
 }
 
-// The product of two numbers, the second of which must not be 0; `None` if it is above 2^62. A
-// division tests it: WebAssembly has no product of more than 64 bits.
-fn product(one: u64, other: u64) -> Option<u64>
-    requires { 0 < other }
-    ensures { SomeIff result (one * other ≤ COORDINATE_BOUND) (one * other) }
-{
-    if one > COORDINATE_BOUND / other {
-        None
-    } else {
-        Some(one * other)
-    }
-}
-
 // The whole number nearest to `number * factor / divisor`; `None` only if it is above 2^62. The
 // factor must not be 0, the divisor must be 1 to 2^27, and `divisor * factor + divisor` at most
-// 2^63.
+// 2^63. A division tests the product: WebAssembly has no product of more than 64 bits.
 fn large(number: u64, factor: u64, divisor: u64, less: u64) -> Option<u64>
     requires some { 0 < factor }
     requires positive { 0 < divisor }
@@ -62,10 +49,11 @@ fn large(number: u64, factor: u64, divisor: u64, less: u64) -> Option<u64>
     requires less { less ≤ 1 }
     ensures { FindsNearest (number * factor) divisor less result }
 {
-    let Some(whole) = product(number / divisor, factor) else {
+    let whole = number / divisor;
+    if whole > COORDINATE_BOUND / factor {
         return None;
-    };
-    Some(whole + rounded_quotient((number % divisor) * factor, divisor, less))
+    }
+    Some(whole * factor + rounded_quotient((number % divisor) * factor, divisor, less))
 }
 
 // The whole number nearest to `number * factor / 2^places`. The number must be below 2^54, the

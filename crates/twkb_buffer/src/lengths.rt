@@ -1,27 +1,11 @@
 //! The length of a conversion's output.
 ghost use Rattle.std.specs.Prelude.{◌≡◌};
-ghost use Rattle.twkb_buffer.specs.Calls.{Counts, MeasuresBy, whole_length_of, Finished, MeasuresOutput, Stopped};
+ghost use Rattle.twkb_buffer.specs.Calls.{MeasuresBy, whole_length_of, MeasuresOutput};
 
 use crate::report::{BufferReport, finished, stopped};
 use std::alloc::Global;
 use std::io;
 use twkb_convert::{Cause, Conversion, ConvertFault, Limits, Report, Tap, convert};
-
-// Converts a slice and drops the output. Returns the result of the conversion, with the number of
-// bytes that the whole output has, or has up to where the conversion stopped. Takes memory for one
-// geometry.
-fn count_output(
-    alloc: Global,
-    what: Conversion,
-    input: &[u8],
-    limits: Limits,
-) -> Result<Report, ConvertFault>
-    ensures { Counts (Finished what limits input.now) (Stopped what limits input.now) result }
-{
-    let mut reader = Tap::new(input);
-    let mut writer = Tap::new(io::sink());
-    convert(alloc, what, &mut reader, &mut writer, limits)
-}
 
 // The length in bytes of the whole output of a conversion with this result: of all input, or of
 // what is before a refused record or item; `None` if the conversion stopped for another cause.
@@ -44,7 +28,7 @@ fn measured(answer: Result<Report, ConvertFault>) -> BufferReport
 {
     let needed = whole_length(answer).unwrap_or(0);
     let report = match answer {
-        Ok(report) => finished(report),
+        Ok(report) => finished(report.geometries, report.bytes),
         Err(fault) => stopped(fault),
     };
     BufferReport {
@@ -60,5 +44,7 @@ fn measured(answer: Result<Report, ConvertFault>) -> BufferReport
 pub fn measure(alloc: Global, what: Conversion, input: &[u8], limits: Limits) -> BufferReport
     ensures { MeasuresOutput what limits input.now result }
 {
-    measured(count_output(alloc, what, input, limits))
+    let mut reader = Tap::new(input);
+    let mut writer = Tap::new(io::sink());
+    measured(convert(alloc, what, &mut reader, &mut writer, limits))
 }

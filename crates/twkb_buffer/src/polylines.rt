@@ -2,11 +2,11 @@
 ghost use Rattle.std.specs.Prelude.{◌≡◌, ◌↔◌, IfErr, IfOk, IfSome, IsSome};
 ghost use Rattle.twkb_points.specs.Point.{IsInRange, point_at};
 ghost use Rattle.twkb_buffer.specs.Polylines.{ArePoints, DecodesSlice, EncodesSlice, Puts, IsRefusedPoint};
-ghost use Rattle.twkb_buffer.specs.Polylines.{coordinates_at, coordinates_of, nothing_report};
+ghost use Rattle.twkb_buffer.specs.Polylines.{coordinates_at, coordinates_of};
 
 use crate::point::BufferPoint;
-use crate::reason_numbers::{DONE, MEMORY, REFUSED, TOO_SMALL, point_text_number};
-use crate::report::BufferReport;
+use crate::reason_numbers::{MEMORY, REFUSED, TOO_SMALL, point_text_number};
+use crate::report::{BufferReport, finished, nothing_put};
 use std::alloc::{AllocError, Global};
 use twkb_points::{PointTail, Pt};
 use twkb_polyline::{PolyFault, PolyReason, decode, encode};
@@ -62,22 +62,6 @@ fn coordinates(alloc: Global, points: &[Pt]) -> Result<Vec<BufferPoint>, AllocEr
     Ok(coordinates)
 }
 
-// The report of a call that wrote nothing, with this status and this size needed, and 0 for all
-// else.
-pub(crate) fn nothing_put(status: u32, needed: u64) -> BufferReport
-    ensures { result ≡ nothing_report status needed }
-{
-    BufferReport {
-        status,
-        reason: 0,
-        place: 0,
-        text_offset: 0,
-        done: 0,
-        sent: 0,
-        needed,
-    }
-}
-
 // Copies a list to the start of a slice, if there is room for all of it, and reports status 0,
 // `done` 1 and as `sent` the list's length; else writes nothing, and reports status 5 and 0 for
 // both. `needed` is the list's length in both cases.
@@ -89,11 +73,7 @@ fn put_whole<T: Copy>(whole: &[T], output: &mut [T]) -> BufferReport
         return nothing_put(TOO_SMALL, count as u64);
     }
     output[..count].copy_from_slice(whole);
-    BufferReport {
-        done: 1,
-        sent: count as u64,
-        ..nothing_put(DONE, count as u64)
-    }
+    finished(1, count as u64)
 }
 
 /// Writes the encoded polyline of points to the start of a slice, if there is room for all of it;

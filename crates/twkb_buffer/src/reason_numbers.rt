@@ -1,14 +1,14 @@
 //! The numbers of statuses and reasons for C.
 ghost use Rattle.std.specs.Prelude.{◌≡◌};
 ghost use Rattle.twkb_buffer.specs.Numbers.{blob_number_of, place_of, point_text_number_of, reason_number_of};
-ghost use Rattle.twkb_buffer.specs.Numbers.{row_number_of, row_text_offset_of, status_of, text_offset_of};
+ghost use Rattle.twkb_buffer.specs.Numbers.{row_number_of, status_of, text_offset_of};
 
 use twkb_convert::{BlobReason, Cause, PolyReason, RowReason};
 
 // Everything was converted.
 pub(crate) const DONE: u32 = 0;
 
-// The input is refused, or input or output is too long.
+// The input is refused, or it has too many records, or input or output is too long.
 pub(crate) const REFUSED: u32 = 1;
 
 // An argument is out of range.
@@ -94,9 +94,9 @@ pub(crate) fn reason_number(cause: Cause) -> u32
     }
 }
 
-// The status of a conversion into a slice that stopped for this cause: 1 if the input is refused,
-// or input or output is too long, 3 if a read failed, 4 if memory was refused, and 5 if a write
-// failed, since the slice is then full.
+// The status of a conversion into a slice that stopped for this cause: 1 if the input is refused or
+// has too many records, or input or output is too long, 3 if a read failed, 4 if memory was
+// refused, and 5 if a write failed, since the slice is then full.
 pub(crate) fn status(cause: Cause) -> u32
     ensures { result ≡ status_of cause }
 {
@@ -120,24 +120,16 @@ pub(crate) fn place(cause: Cause) -> u64
     }
 }
 
-// The offset at which a record's polyline is refused, in bytes from the polyline's start; 0 if
-// another part of the record is refused.
-fn row_text_offset(reason: RowReason) -> u64
-    ensures { result ≡ row_text_offset_of reason }
-{
-    match reason {
-        RowReason::Polyline(offset, _) => offset as u64,
-        _ => 0,
-    }
-}
-
 // The offset at which a refused record's polyline is refused, in bytes from the polyline's start; 0
 // for any other cause.
 pub(crate) fn text_offset(cause: Cause) -> u64
     ensures { result ≡ text_offset_of cause }
 {
     match cause {
-        Cause::Row { reason, .. } => row_text_offset(reason),
+        Cause::Row {
+            reason: RowReason::Polyline(offset, _),
+            ..
+        } => offset as u64,
         _ => 0,
     }
 }

@@ -26,11 +26,12 @@ fn point_text_reason(number: u32) -> Option<PolyReason>
     }
 }
 
-// The reason with this number for which a record is refused, if that is not its polyline; `None`
-// for a number other than 1 to 14 and 16.
+// The reason with this number for which a record is refused, with 0 for the place in its polyline;
+// `None` for a number other than 1 to 14, 16 and 21 to 27.
 fn row_reason(number: u32) -> Option<RowReason>
     ensures some { IfSome result (λ reason. (row_number_of reason ≡ number) × (number ≢ 0)) }
     ensures none { IsNone result → NamesNoRow number }
+    ensures no_polyline { IsNone result → NamesNoPointText number }
 {
     match number {
         1 => Some(RowReason::BadHeader),
@@ -48,7 +49,7 @@ fn row_reason(number: u32) -> Option<RowReason>
         13 => Some(RowReason::PrecisionNotAllowed),
         14 => Some(RowReason::PolylineNotAllowed),
         16 => Some(RowReason::PointCount),
-        _ => None,
+        _ => Some(RowReason::Polyline(0, point_text_reason(number)?)),
     }
 }
 
@@ -79,10 +80,6 @@ fn cause_of(number: u32) -> Option<Cause>
     ensures none { IsNone result → (why : Cause) → HasReason number why → ⊥ }
 {
     if let Some(reason) = row_reason(number) {
-        return Some(Cause::Row { number: 0, reason });
-    }
-    if let Some(reason) = point_text_reason(number) {
-        let reason = RowReason::Polyline(0, reason);
         return Some(Cause::Row { number: 0, reason });
     }
     if let Some(reason) = blob_reason(number) {
@@ -121,16 +118,19 @@ fn words_of(number: u32) -> &'static str
 }
 
 // Copies a text, cut if there is too little room, and after it a zero byte, to the start of a
-// buffer; an empty buffer stays as it is.
-fn put(words: &[u8], text: &mut [u8])
-    ensures { text.new ≡ with_text words.now text.old }
+// buffer; an empty buffer stays as it is. Returns the length of the whole text without the zero
+// byte.
+fn put(words: &str, text: &mut [u8]) -> usize
+    ensures copied { text.new ≡ with_text words.now text.old }
+    ensures length { result ≡ length words.now }
 {
-    if text.is_empty() {
-        return;
+    let words = words.as_bytes();
+    if !text.is_empty() {
+        let count = words.len().min(text.len() - 1);
+        text[count] = 0;
+        text[..count].copy_from_slice(&words[..count]);
     }
-    let count = words.len().min(text.len() - 1);
-    text[count] = 0;
-    text[..count].copy_from_slice(&words[..count]);
+    words.len()
 }
 
 /// Copies the text of the reason with this number, cut if there is too little room, and after it a
@@ -140,18 +140,14 @@ fn put(words: &[u8], text: &mut [u8])
 pub fn put_reason(reason: u32, text: &mut [u8]) -> usize
     ensures { PutsText (AreWordsOf reason) text.old text.new result }
 {
-    let words = words_of(reason).as_bytes();
-    put(words, text);
-    words.len()
+    put(words_of(reason), text)
 }
 
 /// Copies the version of the command and of the library, cut if there is too little room, and after
 /// it a zero byte, to the start of a buffer; an empty buffer stays as it is. Returns the length of
-/// the whole text without the zero byte. Takes no memory.
+/// the whole text without the zero byte, at most 31. Takes no memory.
 pub fn put_version(text: &mut [u8]) -> usize
     ensures { PutsText (λ words. words ≡ version_text) text.old text.new result }
 {
-    let words = VERSION.as_bytes();
-    put(words, text);
-    words.len()
+    put(VERSION, text)
 }

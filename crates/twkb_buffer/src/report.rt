@@ -1,9 +1,10 @@
 //! The report of a call.
 ghost use Rattle.std.specs.Prelude.{◌≡◌};
 ghost use Rattle.twkb_buffer.specs.Calls.{Tells};
+ghost use Rattle.twkb_buffer.specs.Polylines.{nothing_report};
 
 use crate::reason_numbers::{DONE, place, reason_number, status, text_offset};
-use twkb_convert::{ConvertFault, Report};
+use twkb_convert::ConvertFault;
 
 /// The result of a call that converts, measures or rounds.
 #[repr(C)]
@@ -21,37 +22,42 @@ pub struct BufferReport {
     /// The offset at which a text of points is refused, in bytes from its start; or the index in a
     /// refused row of its point that is out of range; otherwise 0.
     pub text_offset: u64,
-    /// The number of geometries whose output was written, or by `measure` counted, whole.
+    /// The number of geometries whose output was written, or by `measure` counted, whole; for a
+    /// polyline or for rounding 1 if all was done, else 0.
     pub done: u64,
     /// The number of bytes, points or coordinates written.
     pub sent: u64,
     /// From `measure`, the length of the whole output in bytes, or 0 if it is not known. From
-    /// `fill`, the number of bytes written; but if the output is too small, the size needed, or 0
-    /// if it is not known.
+    /// `fill`, and for a polyline or for rounding, as many as `sent`; but if the output is too
+    /// small, as many as are needed, or 0 if that is not known.
     pub needed: u64,
 }
 
-// The report of a conversion that reached its end: status 0, and its numbers of geometries and
-// bytes; `needed` is the number of bytes too.
-pub(crate) fn finished(report: Report) -> BufferReport
-    ensures { result ≡ record {
-      status = 0;
-      reason = 0;
-      place = 0;
-      text_offset = 0;
-      done = report.geometries;
-      sent = report.bytes;
-      needed = report.bytes;
-    } }
+// The report of a call that wrote nothing, with this status and this size needed, and 0 for all
+// else.
+pub(crate) fn nothing_put(status: u32, needed: u64) -> BufferReport
+    ensures { result ≡ nothing_report status needed }
 {
     BufferReport {
-        status: DONE,
+        status,
         reason: 0,
         place: 0,
         text_offset: 0,
-        done: report.geometries,
-        sent: report.bytes,
-        needed: report.bytes,
+        done: 0,
+        sent: 0,
+        needed,
+    }
+}
+
+// The report of a call that did all: status 0, these numbers of geometries and of what was written,
+// `needed` equal to `sent`, and 0 for all else.
+pub(crate) fn finished(done: u64, sent: u64) -> BufferReport
+    ensures { result ≡ record (nothing_report 0 sent) { done = done; sent = sent } }
+{
+    BufferReport {
+        done,
+        sent,
+        ..nothing_put(DONE, sent)
     }
 }
 
@@ -64,12 +70,11 @@ pub(crate) fn stopped(fault: ConvertFault) -> BufferReport
     ensures needed { result.needed ≡ fault.sent }
 {
     BufferReport {
-        status: status(fault.cause),
         reason: reason_number(fault.cause),
         place: place(fault.cause),
         text_offset: text_offset(fault.cause),
         done: fault.done,
         sent: fault.sent,
-        needed: fault.sent,
+        ..nothing_put(status(fault.cause), fault.sent)
     }
 }

@@ -1,9 +1,9 @@
 //! Doubles rounded to coordinates in an array. Each double is given by its 64 bits, its `number`; a
 //! scale must be one that `scale_of` gives.
-ghost use Rattle.std.specs.Prelude.{◌≡◌, ℤ, ◌-◌, ◌*◌, ◌%◌, ◌^◌, ◌<◌, ◌≤◌, IfSome, List, length};
+ghost use Rattle.std.specs.Prelude.{◌≡◌, ℤ, ◌-◌, ◌*◌, ◌%◌, ◌^◌, ◌<◌, ◌≤◌, List, length};
 ghost use Rattle.twkb_tree.specs.Tree.{IsPrecision};
 ghost use Rattle.twkb_buffer.specs.RoundedNumbers.{IsFinite, exponent, significand, FindsNearest, FindsSize};
-ghost use Rattle.twkb_buffer.specs.RoundedNumbers.{FindsUnit, IsMultiplier, IsUnit, Rounds, RoundsBefore, RoundsFront};
+ghost use Rattle.twkb_buffer.specs.RoundedNumbers.{FindsUnit, IsMultiplier, Rounds, RoundsBefore, RoundsFront};
 ghost use Rattle.twkb_buffer.specs.RoundedNumbers.{above, above_halfway, below};
 ghost use Rattle.twkb_buffer.specs.RoundedNumbers.{below_halfway, rounded_report, IsScale, divisor_of, factor_of};
 ghost use Rattle.twkb_buffer.specs.Polylines.{nothing_report};
@@ -11,9 +11,8 @@ ghost use Rattle.twkb_buffer.specs.Polylines.{nothing_report};
 use crate::binary64::{NOT_FINITE, exponent, exponent_field, signed, significand, with_sign};
 use crate::fractions::{divided, multiplied};
 use crate::moderate_sizes::{Multiplier, moderate_size, multiplier_of};
-use crate::polylines::nothing_put;
-use crate::reason_numbers::{ARGUMENTS, DONE, REFUSED, TOO_SMALL, point_text_number};
-use crate::report::BufferReport;
+use crate::reason_numbers::{ARGUMENTS, REFUSED, TOO_SMALL, point_text_number};
+use crate::report::{BufferReport, finished, nothing_put};
 use crate::scale::{Scale, scale_of};
 use twkb_polyline::PolyReason;
 
@@ -49,20 +48,16 @@ fn exact_size(number: u64, scale: Scale) -> Option<u64>
 }
 
 // The whole number of units nearest to the point halfway between a double and the next greater one
-// in size; `None` only if it is above 2^62. So a double reaches a half to which no double is
-// nearer; a half just as near to the next double is reached only by the even one of the two.
+// in size, of two the greater if the double is even, else the smaller; `None` only if it is above
+// 2^62. So a double reaches a half to which no double is nearer; but an odd one does not reach a
+// half that is just as near to the next greater one.
 fn halfway_size(number: u64, scale: Scale) -> Option<u64>
     requires { IsScale scale }
     ensures { FindsNearest (above_halfway (factor_of scale) number) (below_halfway (divisor_of scale) number)
         (significand number % 2) result }
 {
-    let significand = significand(number);
-    nearest(
-        2 * significand + 1,
-        exponent(number) - 1,
-        scale,
-        significand % 2,
-    )
+    let whole = significand(number);
+    nearest(2 * whole + 1, exponent(number) - 1, scale, whole % 2)
 }
 
 // The size of a double, which must be finite, in whole units, rounded as `round_numbers` says;
@@ -72,13 +67,10 @@ fn size_of(number: u64, scale: Scale) -> Option<u64>
     requires finite { IsFinite number }
     ensures { FindsSize (factor_of scale) (divisor_of scale) number result }
 {
-    let Some(size) = halfway_size(number, scale) else {
-        return exact_size(number, scale);
-    };
-    if size > SHORT {
-        return exact_size(number, scale);
+    match halfway_size(number, scale) {
+        Some(size) if size <= SHORT => Some(size),
+        _ => exact_size(number, scale),
     }
-    Some(size)
 }
 
 // The coordinate to which a double is rounded; `None` if the double is not finite, or the
@@ -94,19 +86,10 @@ fn unit_of(number: u64, scale: Scale) -> Option<i64>
     with_sign(number, size)
 }
 
-// The coordinate to which a moderate double is rounded; `None` if the double is not moderate.
-#[inline(always)]
-fn moderate_unit(number: u64, multiplier: Multiplier) -> Option<i64>
-    requires { IsMultiplier multiplier }
-    ensures { IfSome result (IsUnit multiplier.factor 1 number) }
-{
-    let size = moderate_size(number, multiplier)?;
-    Some(signed(number, size))
-}
-
 // Rounds doubles from the index `start` on into `units`, up to the first that is not moderate, and
-// returns its index, or how many doubles there are. `units` must have a place for each. Out of line:
-// a loop with no call keeps its values in registers.
+// returns its index, or how many doubles there are. `start` must be at most their number, `units`
+// must have a place for each, and the multiplier must be one that `multiplier_of` gives. Out of
+// line: a loop with no call keeps its values in registers.
 #[inline(never)]
 fn round_moderate(numbers: &[u64], start: usize, multiplier: Multiplier, units: &mut [i64]) -> usize
     requires multiplier { IsMultiplier multiplier }
@@ -118,15 +101,18 @@ fn round_moderate(numbers: &[u64], start: usize, multiplier: Multiplier, units: 
         → RoundsBefore multiplier.factor 1 numbers.now old units.new result }
 {
     for at in start..numbers.len() {
-        let Some(unit) = moderate_unit(numbers[at], multiplier) else {
+        let number = numbers[at];
+        let Some(size) = moderate_size(number, multiplier) else {
             return at;
         };
-        units[at] = unit;
+        units[at] = signed(number, size);
     }
     numbers.len()
 }
 
-// The same at a scale. At one that divides no double is moderate.
+// Rounds doubles at a scale from the index `start` on into `units`, up to the first that is not
+// moderate, and returns its index, or how many doubles there are. `start` must be at most their
+// number, and `units` must have a place for each. At a scale that divides, no double is moderate.
 fn round_moderate_by(numbers: &[u64], start: usize, scale: Scale, units: &mut [i64]) -> usize
     requires scale { IsScale scale }
     requires start { start ≤ length numbers.now }
@@ -168,28 +154,23 @@ fn round_front(numbers: &[u64], scale: Scale, units: &mut [i64]) -> usize
 fn rounded(all: usize, count: usize) -> BufferReport
     ensures { result ≡ rounded_report all count }
 {
-    let whole = BufferReport {
-        done: 1,
-        sent: count as u64,
-        ..nothing_put(DONE, count as u64)
-    };
     if count == all {
-        return whole;
+        return finished(1, count as u64);
     }
     BufferReport {
-        status: REFUSED,
         reason: point_text_number(PolyReason::Range),
         place: count as u64,
-        done: 0,
-        ..whole
+        sent: count as u64,
+        ..nothing_put(REFUSED, count as u64)
     }
 }
 
 /// Rounds doubles, given by their bits, to whole numbers of units of 10^-precision: the nearest, of
 /// two the one farther from 0. Up to 10^14 units a double that is the nearest one to a half counts
 /// as that half. Status 1: `place` is the index of the first double that is not finite, or whose
-/// unit is out of range; the units before it are written. Nothing is written if the precision is
-/// not from -8 to 7 (status 2), or `units` is shorter than `numbers` (5). Takes no memory.
+/// number of units is outside -2^62 to 2^62 - 1; the units before it are written. Nothing is
+/// written if the precision is not from -8 to 7 (status 2), or `units` is shorter than `numbers`
+/// (5). Takes no memory.
 pub fn round_numbers(numbers: &[u64], precision: i32, units: &mut [i64]) -> BufferReport
     ensures rounds { IsPrecision precision → length numbers.now ≤ length units.old
         → Rounds precision numbers.now units.old units.new result }

@@ -55,7 +55,7 @@ pub(crate) fn conversion_of(number: u32, style: Style) -> Option<Conversion>
     }
 }
 
-// The status for limits, a style or a conversion that does not exist.
+// The status if the limits, the style or the conversion is out of range.
 const ARGUMENTS: u32 = 2;
 
 // The report if an argument is out of range: status 2, and 0 for all else.

@@ -34,10 +34,9 @@ pub extern "C" fn polytwkb_read(
     read_arrays(alloc, blobs, rows, points, limits)
 }
 
-/// Writes arrays of rows and points as a stream.
-/// The style is 0 (full) or 1 (plain), and the report is that of `write_arrays`. If the limits or
-/// the style are out of range, the status is 2, and the output is as it was. Takes memory for one
-/// geometry and its blob.
+/// Writes arrays of rows and points as a stream of blobs, in style 0 (full) or 1 (plain), as
+/// `write_arrays` does. If the limits or the style are out of range, the status is 2, and the
+/// output is as it was. Takes memory for one geometry and its blob.
 #[unsafe(no_mangle)]
 pub extern "C" fn polytwkb_write(
     alloc: Global,
@@ -53,10 +52,7 @@ pub extern "C" fn polytwkb_write(
     ensures style_out_of_range { 1 < style → result ≡ arguments_report }
     ensures refused { result.status ≡ 2 → output.new ≡ output.old }
 {
-    let Some(limits) = limits.limits() else {
-        return refused_arguments();
-    };
-    let Some(style) = style_of(style) else {
+    let (Some(limits), Some(style)) = (limits.limits(), style_of(style)) else {
         return refused_arguments();
     };
     write_arrays(alloc, rows, points, output, limits, style)

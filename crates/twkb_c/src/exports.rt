@@ -33,8 +33,8 @@ pub extern "C" fn polytwkb_standard_limits() -> BufferLimits
 }
 
 /// Packs a table into a buffer, in style 0 (full) or 1 (plain), as `fill` does. If the limits or
-/// the style are out of range, the status is 2, and the buffer is as it was. Takes memory for one
-/// geometry.
+/// the style are out of range, the status is 2, and the buffer is as it was. Takes memory as
+/// `twkb_convert::pack_styled` does.
 #[unsafe(no_mangle)]
 pub extern "C" fn polytwkb_pack(
     alloc: Global,
@@ -49,17 +49,14 @@ pub extern "C" fn polytwkb_pack(
     ensures style_out_of_range { 1 < style → result ≡ arguments_report }
     ensures refused { result.status ≡ 2 → output.new ≡ output.old }
 {
-    let Some(limits) = limits.limits() else {
-        return refused_arguments();
-    };
-    let Some(style) = style_of(style) else {
+    let (Some(limits), Some(style)) = (limits.limits(), style_of(style)) else {
         return refused_arguments();
     };
     fill(alloc, Conversion::Pack(style), input, output, limits)
 }
 
 /// Unpacks a stream into a buffer, as `fill` does. If the limits are out of range, the status is 2,
-/// and the buffer is as it was. Takes memory for one geometry.
+/// and the buffer is as it was. Takes memory for one geometry and its text.
 #[unsafe(no_mangle)]
 pub extern "C" fn polytwkb_unpack(
     alloc: Global,
@@ -79,7 +76,8 @@ pub extern "C" fn polytwkb_unpack(
 }
 
 /// Writes the lines that `show` prints for a stream into a buffer, as `fill` does. If the limits
-/// are out of range, the status is 2, and the buffer is as it was. Takes memory for one geometry.
+/// are out of range, the status is 2, and the buffer is as it was. Takes memory for one geometry,
+/// its spans and their text.
 #[unsafe(no_mangle)]
 pub extern "C" fn polytwkb_show(
     alloc: Global,
@@ -100,7 +98,7 @@ pub extern "C" fn polytwkb_show(
 /// Measures the output of a conversion in bytes, as `measure` does, and writes nothing: of packing
 /// (0) in style 0 (full) or 1 (plain), of unpacking (1) or of showing (2). If the conversion, the
 /// limits or the style, which is always looked at, are out of range, the status is 2. Takes memory
-/// for one geometry.
+/// as the conversion does.
 #[unsafe(no_mangle)]
 pub extern "C" fn polytwkb_measure(
     alloc: Global,
@@ -116,10 +114,7 @@ pub extern "C" fn polytwkb_measure(
     ensures style_out_of_range { 1 < style → result ≡ arguments_report }
     ensures conversion_out_of_range { 2 < conversion → result ≡ arguments_report }
 {
-    let Some(limits) = limits.limits() else {
-        return refused_arguments();
-    };
-    let Some(style) = style_of(style) else {
+    let (Some(limits), Some(style)) = (limits.limits(), style_of(style)) else {
         return refused_arguments();
     };
     match conversion_of(conversion, style) {

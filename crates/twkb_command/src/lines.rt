@@ -77,7 +77,7 @@ fn put_blob<W: Write>(output: &mut Output<'_, W>, offset: u64, reason: BlobReaso
     put_text(output, reason.text());
 }
 
-// Puts why a conversion stopped, with the number of the record or the offset if the input is
+// Puts why a conversion stopped, with the number of the record or the offset of the item if one is
 // refused.
 fn put_cause<W: Write>(output: &mut Output<'_, W>, cause: Cause)
     ensures prints { Prints W.contents output.old (cause_text cause) output.new }
@@ -108,8 +108,8 @@ fn put_flushed<W: Write>(output: &mut Output<'_, W>, text: &str)
     let _ = output.flush();
 }
 
-// Writes a text to a device, up to the first write that fails, and flushes the device if none
-// fails. A failure is not reported. Takes no memory.
+// Writes a text of at most 2^62 bytes to a device, up to the first write that fails, and flushes
+// the device if none fails. A failure is not reported. Takes no memory.
 pub(crate) fn print_text<W: Write>(device: &mut Tap<W>, text: &str)
     ensures { length text.now ≤ MAX_BYTES → IsPrinted W.contents device.old text.now device.new }
 {
@@ -118,7 +118,8 @@ pub(crate) fn print_text<W: Write>(device: &mut Tap<W>, text: &str)
 }
 
 /// Writes the line that says why a conversion stopped to a device, up to the first write that
-/// fails: a failure is not reported. Does not flush. Takes no memory.
+/// fails: `polytwkb: `, the cause with its place, and LF. A failure is not reported. Does not flush.
+/// Takes no memory.
 pub fn print_line<W: Write>(device: &mut Tap<W>, cause: Cause)
     ensures { IsPrinted W.contents device.old (line_of cause) device.new }
 {

@@ -15,7 +15,7 @@ use twkb_io::Tap;
 // Carries out a request, and returns the exit status: 0 if all was converted, 1 if the input is
 // refused, or the input or the output is too long, 3 if a device failed, 4 if memory was refused.
 // If the conversion stopped, the line that says why is written to `errors`; a failure there changes
-// nothing else.
+// nothing else. Takes memory as `convert` does.
 pub(crate) fn carry_out<R: Read, W: Write, E: Write>(
     alloc: Global,
     request: Request,
@@ -45,7 +45,7 @@ fn print_requested<W: Write>(writer: &mut Tap<W>, text: &str) -> u8
 
 // Answers words that ask for no conversion: help and the version go to `writer`, everything else to
 // `errors`. Returns the exit status: 0 for help and the version, 2 if the words are refused, 4 if
-// memory was refused. Takes no memory.
+// memory was refused; a write that fails changes none of them. Takes no memory.
 pub(crate) fn refuse<W: Write, E: Write>(
     refusal: &Refusal,
     writer: &mut Tap<W>,

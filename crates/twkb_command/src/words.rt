@@ -16,7 +16,8 @@ use twkb_convert::{Conversion, Style};
 use twkb_tree::Limits;
 
 // What `clap` finds in the words of the command line, if the styles have these names. An `Err` is
-// why `clap` refuses the words, that help or the version is asked for, or want of memory.
+// why `clap` refuses the words, that help or the version is asked for, or that memory was refused.
+// Takes memory to read them.
 fn matches_of<'a>(
     alloc: Global,
     styles: &'a [&'a str],
@@ -97,7 +98,7 @@ fn request_of(matches: &ArgMatches<'_>) -> Request
 }
 
 // The refusal for an error of `clap`, with the text that `clap` prints for it. Takes memory for the
-// text; `Memory` if that is refused, or if the error is want of memory.
+// text; `Memory` if that is refused, or if the error is that memory was refused.
 fn refusal_of(alloc: Global, error: &Error) -> Refusal
     ensures memory { kind_of error.now ≡ ErrorKind.OutOfMemory → result ≡ Refusal.Memory }
     ensures kind { IsRefusal (kind_of error.now) result }

@@ -79,13 +79,8 @@ impl BlobText for TableRows {
     }
 }
 
-// The lines of a stream's headers, made from the spans of each blob.
-#[derive(Drop)]
-pub(crate) struct HeaderLines {
-    pub(crate) spans: Spans,
-}
-
-impl BlobText for HeaderLines {
+// The lines of a stream's headers, made from the spans of each blob, which replace those held.
+impl BlobText for Spans {
     ghost use Rattle.twkb_convert.specs.Listings.{lines_layout};
 
     ghost layout = { lines_layout };
@@ -99,11 +94,11 @@ impl BlobText for HeaderLines {
         blobs: &mut StreamReader<'_, '_, R>,
         text: &mut Vec<u8>,
     ) -> Result<bool, Cause> {
-        if !blobs.next_spans(&mut self.spans)? {
+        if !blobs.next_spans(self)? {
             return Ok(false);
         }
         make_room(text)?;
-        put_lines(self.spans.as_slice(), text)?;
+        put_lines(self.as_slice(), text)?;
         Ok(true)
     }
 }

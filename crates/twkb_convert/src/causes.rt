@@ -27,8 +27,8 @@ impl From<BlobFault> for Cause {
 }
 
 // The cause to report for a fault of a reader of tables. A fault of `csv` is a failed read or a
-// growth that was refused; it counts as a failed read here, and `after_reads` corrects that. `Spent`
-// does not occur, since no call follows a refused one.
+// growth that was refused; it counts as a failed read here, and `after_reads` corrects that.
+// `Spent` does not occur, since no call follows a refused one.
 impl From<TableFault> for Cause {
     ghost use Rattle.twkb_convert.specs.Causes.{cause_of_table};
 

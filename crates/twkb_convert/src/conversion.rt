@@ -10,7 +10,7 @@ use twkb_io::Tap;
 use twkb_tree::Limits;
 use twkb_writer::Style;
 
-/// A conversion between tables and streams.
+/// A conversion of a table or of a stream.
 #[derive(Clone, Copy, PartialEq, Eq, Debug)]
 pub enum Conversion {
     /// Packs a table into a stream, in a style.

@@ -8,7 +8,7 @@ ghost use Rattle.twkb_convert.specs.BlobsListed.{IsFresh, Lists};
 ghost use Rattle.twkb_convert.specs.Listed.{Listed, StoppedListing};
 ghost use Rattle.twkb_convert.specs.Packed.{StoppedUnpacking, Unpacked, Shown, StoppedShowing};
 
-use crate::blob_text::{BlobText, HeaderLines, TableRows};
+use crate::blob_text::{BlobText, TableRows};
 use crate::last_flush::finish;
 use crate::report::{Cause, ConvertFault, Report};
 use std::alloc::Global;
@@ -61,10 +61,8 @@ pub fn show<R: Read, W: Write>(
         writer.old fault reader.new writer.new) }
     ensures flushed { IsFlushed result writer.new }
 {
-    let mut lines = HeaderLines {
-        spans: Spans::new(alloc),
-    };
-    list_stream(&mut lines, alloc, reader, writer, limits)
+    let mut spans = Spans::new(alloc);
+    list_stream(&mut spans, alloc, reader, writer, limits)
 }
 
 // Writes the text of a stream of blobs, as `maker` makes it: the text before the first blob, and

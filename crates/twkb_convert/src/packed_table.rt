@@ -43,9 +43,10 @@ pub fn pack<R: Read, W: Write>(
 /// written, and with an `Err` why it stopped. A record that is refused, as one past the limits is,
 /// stops it; the geometry before that record is not written, since the record might have belonged
 /// to it. The writer is flushed last, unless it failed or more than 2^62 bytes would be written.
-/// Takes memory for one record and one geometry with its sizes. After the table's end, the reader
-/// is read again until it gives no byte: wrap a reader that may go on after an end, such as a
-/// terminal, in `twkb_io::Ending`.
+/// Takes memory for the reader of `csv`, one record, one geometry with its sizes, and the points of
+/// the next root. After the table's end, the reader is read again until it gives no byte, and what
+/// it gives is dropped: wrap a reader that may go on after an end, such as a terminal, in
+/// `twkb_io::Ending`.
 pub fn pack_styled<R: Read, W: Write>(
     alloc: Global,
     reader: &mut Tap<R>,

@@ -6,7 +6,7 @@ use thiserror::Error;
 use twkb_blob::BlobReason;
 use twkb_table::RowReason;
 
-/// The output of a conversion that reached its end.
+/// How much a conversion that reached its end converted and wrote.
 #[derive(Clone, Copy, Debug, PartialEq, Eq)]
 pub struct Report {
     /// The number of geometries converted.

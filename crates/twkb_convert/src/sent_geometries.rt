@@ -45,8 +45,7 @@ pub(crate) struct Sent {
 // or the table's end was reached, and adds them and their work to `sent`, which must count those of
 // the table that were sent before. An `Err` is a fault of the table or of the output, `Memory` if a
 // growth was refused, or `TooLong` after 2^64 - 1 geometries; a growth refused to `csv` is
-// `ReadDevice` here, which `after_reads` corrects. Takes memory for one record and one geometry
-// with its sizes.
+// `ReadDevice` here, which `after_reads` corrects. Takes memory as `pack_styled` does.
 pub(crate) fn send_table<R: Read, W: Write>(
     table: &mut TableReader<'_, R>,
     style: Style,

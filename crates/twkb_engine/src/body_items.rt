@@ -1,6 +1,7 @@
 //! The items of a body: coordinates, and counts of points and of rings. Each is taken by its
 //! number, and by `width`, how many bytes that has. It must be the item that comes next, and end at
-//! an offset of the stream of at most 2^63. After an `Err` the engine can take nothing more.
+//! an offset of the stream of at most 2^63. `flat` and `spans` are as with `feed`. After an `Err`
+//! the engine can take nothing more.
 ghost use Rattle.std.specs.Prelude.{◌≡◌, ◌≢◌, ◌+◌, ◌≤◌, [], true, false, List, Ok, Some, IfOk, OnOk, IfSome};
 ghost use Rattle.std.specs.Prelude.{IfNone};
 ghost use Rattle.twkb_tree.specs.Rows.{Row as TableRow};
@@ -102,8 +103,8 @@ impl Engine {
 
     // Goes past a point at `position`, the last of its list or a geometry or member itself, as
     // `end_list_or_point` does, and adds it to the form, which must admit it. No point of the list
-    // may be left. Returns whether the blob ends with it. Refused if the size of a geometry that
-    // ends here is not exact. The point takes memory.
+    // may be left, and `next` must be an item of a body. Returns whether the blob ends with the
+    // point. Refused if the size of a geometry that ends here is not exact. The point takes memory.
     #[inline(never)]
     pub(crate) fn put_last_point<S: SpanNotes>(
         &mut self,
@@ -186,8 +187,9 @@ impl Engine {
     }
 
     // Goes past an empty list of points or rings, as `end_list_or_point` does, and then pushes its
-    // row, which the form must admit. Returns whether the blob ends with it. Refused if the size of
-    // a geometry that ends here is not exact. The row takes memory.
+    // row, which the form must admit. No point may be left, and `next` must be an item of a body.
+    // Returns whether the blob ends with the list. Refused if the size of a geometry that ends here
+    // is not exact. The row takes memory.
     fn put_empty_list<S: SpanNotes>(
         &mut self,
         flat: &mut Flat,
@@ -207,8 +209,8 @@ impl Engine {
 
     // Goes past a list, or past a point that is a geometry or a member itself, of which no point
     // may be left: to the next ring or member, or past the end of the geometry as `end_geometry`
-    // does. Returns whether the blob ends here; an `Err` is a size that is not exact. Takes no
-    // memory.
+    // does. `next` must be an item of a body. Returns whether the blob ends here; an `Err` is a
+    // size that is not exact. Takes no memory.
     #[inline(always)]
     fn end_list_or_point<S: SpanNotes>(&mut self, spans: &mut S) -> Result<bool, Inexact>
         requires last { self.old.points_left ≡ 0 }
@@ -224,8 +226,8 @@ impl Engine {
         Ok(false)
     }
 
-    // Goes past a list of points that are all taken, as `end_list_or_point` does. Not inlined, so
-    // that its caller keeps its registers.
+    // Goes past a list of points, which must all be taken, as `end_list_or_point` does and under
+    // its conditions. Not inlined, so that its caller keeps its registers.
     #[inline(never)]
     pub(crate) fn end_points<S: SpanNotes>(&mut self, spans: &mut S) -> Result<bool, Inexact>
         requires last { self.old.points_left ≡ 0 }
@@ -248,7 +250,8 @@ impl Engine {
     }
 
     // Goes past a list or point after which a ring or a member must be left: to the next ring, or
-    // else to the next member and its id. No point of the list may be left.
+    // else to the next member and its id. No point of the list may be left, and `next` must be an
+    // item of a body.
     #[inline(always)]
     fn end_list(&mut self)
         requires last { self.old.points_left ≡ 0 }

@@ -1,4 +1,4 @@
-//! The end of a geometry.
+//! The end of a geometry. After an `Err` the engine can take nothing more.
 ghost use Rattle.std.specs.Prelude.{◌≡◌, ◌-◌, true, IfOk, OnOk, List};
 ghost use Rattle.twkb_grammar.specs.Reading.{is_exact as exact};
 ghost use Rattle.twkb_body.specs.Growing.{Nothing, Admits};
@@ -46,10 +46,10 @@ impl Engine {
     ghost use Rattle.twkb_engine.specs.Fits.{are_shut, IsInside, IsHeaderItem};
     ghost use Rattle.twkb_engine.specs.Taking.{GoesOn, past_end, own_row, judged_as};
 
-    // Ends the geometry that is read, of which nothing may be left, and each collection whose last
-    // member ends with it, the innermost first, and notes the ends of their spans. Returns true if
-    // the blob ends, and goes to the next one; false if a member comes next. An `Err` is the first
-    // size that is not exact. Takes no memory.
+    // Ends the geometry that is read, which must be begun and of which nothing may be left, and
+    // each collection whose last member ends with it, the innermost first, and notes the ends of
+    // their spans. Returns true if the blob ends, and goes to the next one; false if a member comes
+    // next. An `Err` is the first size that is not exact. Takes no memory.
     pub(crate) fn end_geometry<S: SpanNotes>(&mut self, spans: &mut S) -> Result<bool, Inexact>
         requires shut { are_shut self.old.points_left self.old.rings_left self.old.members_left ≡ true }
         requires inside { IsInside self.old.next }
@@ -80,7 +80,8 @@ impl Engine {
 
     // Ends a geometry that has no body, or no members, as `end_geometry` does, and then pushes its
     // row, which the form must admit. Returns whether the blob ends with it. Refused if the size of
-    // a geometry that ends here is not exact. The row takes memory.
+    // a geometry that ends here is not exact. `next` must be an item of a header after the type
+    // byte, or the count of members. The row takes memory.
     #[tactic(auto, using(crate::proofs::Parts::headings))]
     pub(crate) fn end_empty<S: SpanNotes>(
         &mut self,

@@ -1,6 +1,7 @@
 //! The items of a header: type byte, metadata byte, extended byte, size and box. Each is taken by
-//! its number, and by `width`, how many bytes that has, 1 if not given. It must be the item that
-//! comes next, and end at an offset of the stream of at most 2^63. After an `Err` the engine can
+//! its number, and by `width`, how many bytes that has; without `width` it is one byte, and the
+//! number must be below 256. It must be the item that comes next, and end at an offset of the
+//! stream of at most 2^63. `flat` and `spans` are as with `feed`. After an `Err` the engine can
 //! take nothing more.
 ghost use Rattle.std.specs.Prelude.{◌≡◌, ◌+◌, ◌≤◌, ◌<◌, ◌/◌, ◌%◌, ℕ, List, [], None, true, IfOk, OnOk};
 ghost use Rattle.twkb_tree.specs.Rows.{Row};
@@ -224,7 +225,7 @@ impl Engine {
 
     // Goes past the place of the extended dimensions byte: to the size, if `metadata`, which must
     // be that of `head`, announces one, or else as `after_size` does. Returns whether the blob ends
-    // here. An `Err` and memory are as with `end_empty`.
+    // here. `next`, `flat`, an `Err` and memory are as with `end_empty`.
     #[inline(always)]
     fn after_extended<S: SpanNotes>(
         &mut self,
@@ -248,7 +249,7 @@ impl Engine {
 
     // Goes past the place of the size: to the box, if `metadata`, which must be that of `head`,
     // announces one, or else past the header as `begin_body` does. Returns whether the blob ends
-    // here. An `Err` and memory are as with `end_empty`.
+    // here. `next`, `flat`, an `Err` and memory are as with `end_empty`.
     #[inline(always)]
     fn after_size<S: SpanNotes>(
         &mut self,
@@ -271,8 +272,8 @@ impl Engine {
     }
 
     // Goes past the header: to the body, or to the count of members. A geometry without a body
-    // ends, as `end_empty` does it, with the same `Err` and memory. Returns whether the blob ends
-    // here.
+    // ends, as `end_empty` does it. Returns whether the blob ends here. `next`, `flat`, an `Err`
+    // and memory are as with `end_empty`.
     #[inline(always)]
     fn begin_body<S: SpanNotes>(&mut self, flat: &mut Flat, spans: &mut S) -> Result<bool, Stop>
         requires header { IsHeaderItem self.old.next }
@@ -288,7 +289,7 @@ impl Engine {
     }
 
     // Makes the item after the header, the first of the body or the count of members, the one that
-    // comes next.
+    // comes next. The kind must not be `Ring`, and no point, ring or member may be left.
     #[inline(always)]
     #[tactic(auto, using(crate::proofs::Parts::headers))]
     pub(crate) fn go_to_body(&mut self)

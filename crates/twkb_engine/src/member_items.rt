@@ -1,7 +1,7 @@
 //! The items before the members of a multi-geometry or a collection: their count and their ids.
 //! Each is taken by its number, and by `width`, how many bytes that has. It must be the item that
-//! comes next, and end at an offset of the stream of at most 2^63. After an `Err` the engine can
-//! take nothing more.
+//! comes next, and end at an offset of the stream of at most 2^63. `flat` and `spans` are as with
+//! `feed`. After an `Err` the engine can take nothing more.
 ghost use Rattle.std.specs.Prelude.{◌≡◌, ◌+◌, ◌<◌, ◌++◌, ◌∷◌, [], nat_lt, suc, length, false, None, IfOk, OnOk};
 ghost use Rattle.twkb_num.specs.Spelling.{unzigzag_of};
 ghost use Rattle.twkb_grammar.specs.Bits.{bit};
@@ -77,7 +77,7 @@ impl Engine {
 
     // Why the limits refuse `count` members, which announce `points` points, as `member_points`
     // must give them: a collection nests too deep, or else there are too many rows, or else too
-    // many points. `None` if they do not.
+    // many points. `None` if they do not. The count of members must come next.
     #[inline(always)]
     fn too_many_members(&self, count: u64, points: u64) -> Option<BlobReason>
         requires next { self.now.next ≡ next.MemberCount }
@@ -121,9 +121,10 @@ impl Engine {
         Ok(false)
     }
 
-    // Forgets all ids, and goes to the members of a geometry that has `count` of them, at least
-    // one: to the first id if they have ids, else to the first member as `begin_members` does. A
-    // row and an open collection take memory.
+    // Forgets all ids, and goes to the members of a geometry that has `count` of them, which must
+    // be at least one: to the first id if they have ids, else to the first member as
+    // `begin_members` does. The count of members must come next, and fewer than 64 collections must
+    // be open. A row and an open collection take memory.
     #[inline(always)]
     fn begin_ids_or_members(&mut self, flat: &mut Flat, count: u64) -> Result<(), AllocError>
         requires next { self.old.next ≡ next.MemberCount }
@@ -171,7 +172,8 @@ impl Engine {
     }
 
     // Pushes the row of a geometry with members, which the form must admit, opens the geometry with
-    // its ids if it is a collection, and goes to the first member. A row and an open collection
+    // its ids if it is a collection, and goes to the first member. `next` must be `Id`, also if
+    // members have no ids, and fewer than 64 collections must be open. A row and an open collection
     // take memory.
     fn begin_members(&mut self, flat: &mut Flat) -> Result<(), AllocError>
         requires next { self.old.next ≡ next.Id }

@@ -17,8 +17,8 @@ use twkb_body::{Head, MemberIds};
 // places, so they are on the heap.
 const INLINE: usize = 1;
 
-// A growth adds this many places at least: room for four at first, and no more growths than of a
-// `Vec`.
+// `make_place` makes room for this many places before it adds one: the first growth makes room for
+// four, and each later one doubles it.
 const MORE: usize = 3;
 
 // A collection that is begun and not finished: its header, the ids from the open member on, and the

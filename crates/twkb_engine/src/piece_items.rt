@@ -22,8 +22,9 @@ impl Engine {
     ghost use Rattle.twkb_engine.specs.Standing.{TakesMany, TakesList, held_in, count_of};
     ghost use Rattle.twkb_engine.specs.declared.next_item.NextItem.TheVariants.{X, Id};
 
-    /// Takes one byte, and returns whether the blob ends with it; a byte that does not end its
-    /// varint is held. `flat`, `spans`, an `Err` and memory are as with `feed`.
+    /// Takes one byte, which must end at an offset of the stream of at most 2^63, and returns
+    /// whether the blob ends with it; a byte that does not end its varint is held. `flat`, `spans`,
+    /// an `Err` and memory are as with `feed`.
     #[inline(always)]
     pub fn take_byte<S: SpanNotes>(
         &mut self,
@@ -95,10 +96,11 @@ impl Engine {
         Ok((1, self.take_byte(flat, spans, rest[0])?))
     }
 
-    // Takes a point that is a geometry or a member itself, whose x must come next, none of it held,
-    // and goes past what ends with it. Returns how many bytes were taken, and whether the blob
-    // ends; 0 and false, with no change, if the point is out of range, cut or too long. Refused if
-    // the size of a geometry that ends here is not exact. Takes memory.
+    // Takes a point that is a geometry or a member itself, and goes past what ends with it. No list
+    // of points may be open; an x must come next, none of it held; `flat` and `spans` are as with
+    // `feed`. Returns how many bytes were taken, and whether the blob ends; 0 and false, with no
+    // change, if the point is out of range, cut or too long. Refused if the size of a geometry that
+    // ends here is not exact. Takes memory.
     #[inline(always)]
     fn take_point<S: SpanNotes>(
         &mut self,
@@ -122,7 +124,8 @@ impl Engine {
 
     // Takes points of the open list, of which some must be left; an x must come next, none of it
     // held. Does not go past the list's end. Returns how many bytes they had; 0 if the next is out
-    // of range, cut or too long, or if the form may lack room for all that are left. Takes memory.
+    // of range, cut or too long, or if `takes_points` of the form is false for all that are left.
+    // Takes memory.
     #[inline(always)]
     fn take_list(&mut self, flat: &mut Flat, rest: &[u8]) -> Result<usize, AllocError>
         requires ahead { IsAhead X self.old (length rest.now) }
@@ -141,8 +144,8 @@ impl Engine {
 
     // Takes members of a multipoint; an x must come next, none of it held. Returns how many bytes
     // they had; 0 if the geometry is no multipoint, if the next member is its first or last, lacks
-    // its id, or is out of range, cut or too long, or if the form may lack room for all. Takes
-    // memory. Not inlined, so that its callers keep their registers.
+    // its id, or is out of range, cut or too long, or if `takes_members` of the form is false for
+    // all but the last. Takes memory. Not inlined, so that its callers keep their registers.
     #[inline(never)]
     fn take_members(&mut self, flat: &mut Flat, rest: &[u8]) -> Result<usize, AllocError>
         requires { IsAhead X self.old (length rest.now) }
@@ -246,9 +249,11 @@ impl Engine {
     }
 
     /// Takes bytes up to the end of a blob, else all; returns how many, and whether a blob ends
-    /// with them. `flat` must be empty when a blob begins, so clear it after each, and else as the
-    /// last call left it. `spans` notes the blob's spans. An `Err` says why the item at `offset` is
-    /// refused, or that memory is; nothing more can be fed then. Takes memory for what is read.
+    /// with them. The piece must end at an offset of the stream of at most 2^63. When a blob
+    /// begins, `flat` must be empty, so clear it after each, and `spans`, which notes the blob's
+    /// spans, must have noted nothing; else both must be as the last call left them. An `Err` says
+    /// why the item at `offset`, or the size of a geometry that ends there, is refused, or that
+    /// memory is; nothing more can be fed then. Takes memory for what is read.
     #[inline(always)]
     pub fn feed<S: SpanNotes>(
         &mut self,

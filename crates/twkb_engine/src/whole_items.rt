@@ -1,5 +1,6 @@
 //! Items that are complete at the start of bytes: a header, and a blob of a single point. The bytes
-//! must end at an offset of the stream of at most 2^63.
+//! must end at an offset of the stream of at most 2^63. After an `Err` the engine can take nothing
+//! more.
 ghost use Rattle.std.specs.Prelude.{◌≡◌, ◌+◌, ◌-◌, ◌<◌, ◌≤◌, [], true, List, Ok, length, take};
 ghost use Rattle.std.specs.Prelude.{IfOk, IfSome, OnErr};
 ghost use Rattle.twkb_tree.specs.Rows.{Row};
@@ -81,7 +82,8 @@ impl Engine {
     // Takes a blob of a single point at the start of the piece: replaces the form's rows by the
     // point's, notes its span, goes to the next blob, and returns how many bytes the blob has; 0,
     // with no change, if `exact_point` gives none or the limits allow no point. No blob may be
-    // begun. Takes memory. Not inlined, so that its callers have more registers.
+    // begun, and `spans` must have noted nothing. Takes memory. Not inlined, so that its callers
+    // have more registers.
     #[inline(never)]
     fn take_root_point<S: SpanNotes>(
         &mut self,
@@ -111,9 +113,10 @@ impl Engine {
         Ok(point.used)
     }
 
-    // Takes a header with a body that is complete at the start of the bytes, and returns how many
-    // bytes it has; 0, with no change, if `front_header` gives none, or if it announces a point too
-    // many. A type byte must come next. A span takes memory.
+    // Takes the header of a geometry with a body if it is complete at the start of the bytes, and
+    // returns how many bytes it has; 0, with no change, if `front_header` gives none, or if it
+    // announces a point too many. A type byte must come next, and no byte may be held. A span takes
+    // memory.
     #[inline(always)]
     pub(crate) fn take_header<S: SpanNotes>(
         &mut self,

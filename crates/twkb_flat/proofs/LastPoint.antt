@@ -31,7 +31,7 @@ use Rattle.std.proofs.lemmas.Bool.{cases_lt}
 use Rattle.std.specs.Vec.{with_items}
 use Rattle.twkb_tree.specs.declared.limits.TheConstants.{NODES_CAP, POINTS_CAP}
 use Rattle.twkb_tree.specs.Tree.{Tree, flat, saturated}
-use Rattle.twkb_tree.specs.RowLemmas.{length-rows_with}
+use Rattle.twkb_tree.proofs.TreeLemmas.{length-rows_with}
 use Rattle.twkb_tree.proofs.PointMore.{line_more, point_last}
 use Rattle.twkb_flat.specs.declared.node.Row.{Row as NodeRow}
 use Rattle.twkb_flat.specs.declared.node.Node.{Node}

@@ -28,15 +28,15 @@ pub(crate) trait Component: Element {
         ensures { result.now ≡ own self.now };
 
     // Appends the rows below the component's own row to the form: one for each ring of a polygon,
-    // at `depth`; none for a point or a line. They must continue the form's rows within
+    // at `depth`; none for a point, a line or a ring. They must continue the form's rows within
     // `Limits::largest()`. Takes memory; after an `Err` some of them may be appended.
     fn push_below(&self, depth: u32, flat: &mut Flat) -> Result<(), AllocError>
         requires valid { AreValidRowsOfOne largest_limits (flat.old ++ below depth self.now) }
         ensures { OnOk result (flat.new ≡ flat.old ++ below depth self.now) };
 
     // Builds the component of this type whose first row is at place `at`, and returns it and the
-    // place after its last row. The row at `at` must be that of one. Takes memory for lines and
-    // polygons.
+    // place after its last row. The row at `at` must be that of one. Takes memory for lines, rings
+    // and polygons.
     fn take(flat: &Flat, alloc: Global, at: usize) -> Result<(Self, usize), AllocError>
         requires stands { (kind : Kind) × (d : ℕ) × (id : Option ℤ) × (component : Self)
             × (rest : List TableRow) × OneAt IsAny (component_rows own below kind d) flat.now at d id

@@ -195,7 +195,8 @@ impl Flat {
         Ok(())
     }
 
-    /// The node at this place in preorder. Adds one to `work.node_reads`. Takes no memory.
+    /// The node at this place in preorder; there must be such a node. Adds one to
+    /// `work.node_reads`, up to 2^64 - 1. Takes no memory.
     pub fn node(&self, id: NodeId, work: &mut Work) -> Node
         requires { id.0 < length self.now }
         ensures node { IsNode self.now id.0 result }
@@ -217,8 +218,8 @@ impl Flat {
         }
     }
 
-    /// The point at this place among the points of all rows. Adds one to `work.point_reads`. Takes
-    /// no memory.
+    /// The point at this place among the points of all rows; there must be such a point. Adds one
+    /// to `work.point_reads`, up to 2^64 - 1. Takes no memory.
     pub fn point(&self, id: PointId, work: &mut Work) -> Pt
         requires { id.0 < length (row_points self.now) }
         ensures point { slice_get (row_points self.now) id.0 ≡ Some result }

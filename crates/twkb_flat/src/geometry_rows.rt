@@ -77,7 +77,8 @@ fn push_under(geometry: &Geometry, depth: u32, flat: &mut Flat) -> Result<(), Al
 }
 
 // Appends the rows below the own row of a geometry, which must not be a collection, as `push_under`
-// does.
+// does. They must continue the form's rows within `Limits::largest()`. Takes memory; after an `Err`
+// some of them may be appended.
 fn push_components(geometry: &Geometry, depth: u32, flat: &mut Flat) -> Result<(), AllocError>
     requires valid { AreValidRowsOfOne largest_limits (flat.old ++ rows_under depth geometry.now) }
     requires no_collection { IsSimple geometry.now }

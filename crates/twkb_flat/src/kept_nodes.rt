@@ -22,9 +22,9 @@ pub(crate) struct PlacedRow {
     pub(crate) points: u32,
 }
 
-// A row with the place of its points, and a link. The link is the place after the node's subtree.
-// As long as all nodes after it are below it, the node is open, and the link is the place of its
-// parent, or 0 for the root. So the link of an open node is at most its own place.
+// A row with the place of its points, and a link. As long as all nodes after it are below it, the
+// node is open, and the link is the place of its parent, or 0 for the root; else the link is the
+// place after the node's subtree. So the link of an open node is at most its own place.
 #[derive(Clone, Copy)]
 pub(crate) struct KeptNode {
     pub(crate) placed: PlacedRow,
@@ -57,8 +57,9 @@ pub(crate) fn put_point(
 }
 
 // Appends the points of the source to `points`, and a node of this row with their place and number,
-// and with link 0, to `kept`. `points` must then have at most 2^24 points. Takes memory. An `Err`
-// is the fault of the source, or its `want_of_memory`, and changes nothing.
+// and with link 0, to `kept`. `points` must have at most 2^24 points, also with any that the source
+// may give. Takes memory. An `Err` is the fault of the source, or its `want_of_memory`, and changes
+// nothing.
 #[inline(always)]
 pub(crate) fn put_row<S: PointSource>(
     kept: &mut Vec<KeptNode>,
@@ -94,7 +95,7 @@ pub(crate) fn put_row<S: PointSource>(
     Ok(())
 }
 
-// Sets the link of the node at place `at` to the place `to`.
+// Sets the link of the node at place `at` to the place `to`. There must be a node at `at`.
 #[inline(always)]
 pub(crate) fn link(kept: &mut [KeptNode], at: u32, to: u32)
     requires { at < length kept.old }
@@ -106,8 +107,9 @@ pub(crate) fn link(kept: &mut [KeptNode], at: u32, to: u32)
 }
 
 // Closes the open nodes at this depth and below it, among those before place `next`: sets their
-// links to `next`. Returns the place of the open node above them. `depth` must be from 1 to one
-// more than that of the node before `next`.
+// links to `next`. Returns the place of the open node one level above this depth. `next` must be
+// from 1 to the number of nodes, the nodes before it must be linked, and `depth` must be from 1 to
+// one more than that of the node before `next`.
 #[inline(always)]
 fn close_from(kept: &mut [KeptNode], depth: u32, next: u32) -> u32
     requires some { 0 < next }
@@ -128,9 +130,9 @@ fn close_from(kept: &mut [KeptNode], depth: u32, next: u32) -> u32
     at
 }
 
-// Links the last node, which is at place `at` and must not be linked yet, to its parent, and closes
-// the nodes whose subtrees end before it. Its depth must be 0 for the first node, else from 1 to
-// one more than that of the node before it.
+// Links the last node, which must be at place `at`, to its parent, or to 0 if it is the root, and
+// closes the nodes whose subtrees end before it. The nodes before it must be linked. Its depth must
+// be 0 for the first node, else from 1 to one more than that of the node before it.
 #[inline(always)]
 pub(crate) fn link_last(kept: &mut [KeptNode], at: u32)
     requires { IsUnlinked kept.old at }
@@ -146,7 +148,8 @@ pub(crate) fn link_last(kept: &mut [KeptNode], at: u32)
     link(kept, at, parent);
 }
 
-// The place of the open node at this depth, which must be at most the depth of the last node.
+// The place of the open node at this depth, which must be at most the depth of the last node. There
+// must be a node, and all nodes must be linked.
 pub(crate) fn open_at(kept: &[KeptNode], depth: u32) -> usize
     requires linked { Linked (depths_in kept.now) (links_in kept.now) }
     requires within { depth < levels (depths_in kept.now) }
@@ -159,8 +162,8 @@ pub(crate) fn open_at(kept: &[KeptNode], depth: u32) -> usize
     at
 }
 
-// Whether the node after this place has an id; `None` if there is no such node. The node after an
-// open one is its first child.
+// Whether the node after this place has an id; `None` if there is no such node. There must be a
+// node at this place. The node after an open one is its first child.
 pub(crate) fn child_ids(kept: &[KeptNode], at: usize) -> Option<bool>
     requires { at < length kept.now }
     ensures { (points : List Point) → result ≡ ids_by (slice_get (listed (map placed_of kept.now) points) (at + 1)) }

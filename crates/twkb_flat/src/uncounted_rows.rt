@@ -20,7 +20,7 @@ impl Flat {
         self.row(at).depth == depth
     }
 
-    // The row at this place in preorder, without its points.
+    // The row at this place in preorder, without its points. There must be such a row.
     pub(crate) fn row(&self, at: usize) -> Row
         requires { at < length self.now }
         ensures row { (row : TableRow) (rest : List TableRow) → drop at self.now ≡ row ∷ rest
@@ -31,7 +31,8 @@ impl Flat {
         self.kept[at].placed.row
     }
 
-    // The points of the row at this place, without those of rows below it.
+    // The points of the row at this place, without those of rows below it. There must be such a
+    // row.
     pub(crate) fn own_points(&self, at: usize) -> &[Pt]
         requires { at < length self.now }
         ensures points { (row : TableRow) (rest : List TableRow) → drop at self.now ≡ row ∷ rest
@@ -45,7 +46,8 @@ impl Flat {
     }
 }
 
-// The points from place `first` up to, but not including, place `last`.
+// The points from place `first` up to, but not including, place `last`. `first` must be at most
+// `last`, and `last` at most the number of points.
 fn part(points: &[Pt], first: usize, last: usize) -> &[Pt]
     requires order { first ≤ last }
     requires within { last ≤ length points.now }

@@ -2,7 +2,7 @@
 ghost use Rattle.std.specs.Prelude.{◌≡◌, ◌+◌, ◌≤◌};
 ghost use Rattle.twkb_tree.specs.Tree.{saturated};
 
-/// Counts of what was measured, and of what was read of flat forms; each stops at 2^64 - 1.
+/// Counts of what was measured, and of the points and nodes that were read; each stops at 2^64 - 1.
 #[derive(Clone, Copy, Debug, PartialEq, Eq)]
 pub struct Work {
     /// The points of the flat forms that were measured.

@@ -64,7 +64,7 @@ use Rattle.twkb_table.specs.RowReading.{JudgedAfter, Kept}
 use Rattle.twkb_table.specs.declared.reason.RowReason.{RowReason}
 use Rattle.twkb_table.specs.declared.reason.RowReason.TheVariants.{BadKind, BadPlace, Polyline}
 use Rattle.twkb_table.specs.declared.row_reader.Root.{Root}
-use Rattle.twkb_table.specs.Head.{head_row, most_points, HasNeedlessText, JudgedAs, JudgedBy}
+use Rattle.twkb_table.specs.Head.{head_row, HasNeedlessText, JudgedAs, JudgedBy}
 use Rattle.twkb_table.specs.declared.head.RowHead.{RowHead}
 
 -- ==== What a read of `csv` says about the place in a text.
@@ -629,6 +629,10 @@ comes_next l rows fields head row cleared points own of_one read row_is none put
       accepts = accepts_next l rows fields (row_with row points) of_one
           (judged [] (λ e. refl));
     }
+
+-- the most points that the row may have by the limits
+abbrev pub most_points : RowHead → ℕ
+most_points head = head.limits.points - head.row_place.points
 
 -- the place of the row allows this many points
 abbrev pub AllowsMany : RowHead → ℕ → Type 0

@@ -1,5 +1,5 @@
 -- A row that was read except for its points, and the verdict that its points give the record.
-use Rattle.std.specs.Prelude.{◌≡◌, ◌≢◌, ℕ, ◌-◌, [], false, Result, Ok, Err}
+use Rattle.std.specs.Prelude.{◌≡◌, ◌≢◌, [], false, Result, Ok, Err}
 use Rattle.twkb_tree.specs.Admits.{has_points}
 use Rattle.twkb_flat.specs.declared.node.Row.{Row}
 use Rattle.twkb_table.specs.Judged.{Verdict, Refused, JudgedByPoints, place_seen}
@@ -13,10 +13,6 @@ head_row head = record { depth = head.row_place.depth; kind = head.kind; id = he
 -- the row's kind has no points, but its record has a text of points
 abbrev pub HasNeedlessText : RowHead → Type 0
 HasNeedlessText head = (head.text.now ≢ []) × (has_points head.kind ≡ false)
-
--- the most points that the row may have by the limits
-abbrev pub most_points : RowHead → ℕ
-most_points head = head.limits.points - head.row_place.points
 
 -- the verdict that the text of the points gives the record
 abbrev pub JudgedAs : RowHead → Verdict → Type 0

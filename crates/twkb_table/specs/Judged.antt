@@ -146,19 +146,7 @@ rule_reason Refusal.PointCount = row.PointCount
 rule_reason Refusal.CoordinateRange = row.Polyline 0 text.Range
 rule_reason Refusal.TooManyPoints = row.Polyline 0 text.TooMany
 
--- ==== The verdict that a row's place, its id, its precision and the number of its points give its
--- record.
-
--- a row of this kind may come at this place: the verdict on its id is the verdict on its place
-abbrev pub HasPlace : Allowance → Place → Kind → Type 0
-HasPlace l here k =
-    (id_field precision_field text : List ℕ) (v : Verdict)
-    → JudgedById l here k id_field precision_field text v → JudgedByPlace l here k id_field precision_field text v
-
--- a row of this kind may not come at this place, for this reason, whatever its other fields are
-abbrev pub LacksPlace : Allowance → Place → Kind → RowReason → Type 0
-LacksPlace l here k reason =
-    (id_field precision_field text : List ℕ) → JudgedByPlace l here k id_field precision_field text (Refused reason)
+-- ==== The verdict that a row's id, its precision and the number of its points give its record.
 
 -- a row of this kind may have this id at this place, and the field spells it: the verdict on its
 -- precision is the verdict on its id

@@ -105,12 +105,6 @@ pub record GivesRows {R : Type 0} (l : Allowance) (remaining : R → Option (Lis
   pub rows : rows 0 geometry ≡ flat
   pub stands : StandsAt l remaining told seen (given ++ geometry ∷ []) now
 
--- `GivesRows` of a reader of tables
-abbrev pub GivesNext : {R : Type 0} → Allowance → (R → Option (List ℕ)) → Option (List ℕ)
-    → List Record → List Tree → List Row → TableReader R → Type 0
-GivesNext l remaining told records given flat reader = GivesRows l remaining told records given flat
-    (progress reader)
-
 -- The records seen name one more geometry, which is this one.
 pub record GivesTree {R : Type 0} (l : Allowance) (remaining : R → Option (List ℕ))
     (told : Option (List ℕ)) (records : List Record) (given : List Tree) (geometry : Tree)
@@ -129,12 +123,6 @@ pub record ReachesEnd {R : Type 0} (l : Allowance) (remaining : R → Option (Li
     pub all : IfSome told (λ text. AreRecordsOf text seen)
     pub named : Named l seen given
     pub stands : StandsAt l remaining told seen given now
-
--- `ReachesEnd` of a reader of tables
-abbrev pub MeetsEnd : {R : Type 0} → Allowance → (R → Option (List ℕ)) → Option (List ℕ)
-    → List Record → List Tree → TableReader R → Type 0
-MeetsEnd l remaining told records given reader = ReachesEnd l remaining told records given
-    (progress reader)
 
 -- The records seen are refused at the last of them, for this reason, and the geometries returned
 -- are those that the refusal leaves complete. If no record was seen, the text has none.
@@ -180,7 +168,7 @@ Wherever remaining old Holds =
 -- the records name one more geometry with these rows, and the new reader is after it
 abbrev pub Gives : {R : Type 0} → (R → Option (List ℕ)) → TableReader R → List Row → TableReader R → Type 0
 Gives remaining old flat new = Wherever remaining old
-    (λ l told records given. GivesNext l remaining told records given flat new)
+    (λ l told records given. GivesRows l remaining told records given flat (progress new))
 
 -- the records name this one more geometry, and the new reader is after it
 abbrev pub GivesGeometry : {R : Type 0} → (R → Option (List ℕ)) → TableReader R → Tree → TableReader R → Type 0
@@ -189,7 +177,8 @@ GivesGeometry remaining old geometry new = Wherever remaining old
 
 -- all records of the text name the geometries returned, and the new reader is at its end
 abbrev pub Ends : {R : Type 0} → (R → Option (List ℕ)) → TableReader R → TableReader R → Type 0
-Ends remaining old new = Wherever remaining old (λ l told records given. MeetsEnd l remaining told records given new)
+Ends remaining old new = Wherever remaining old
+    (λ l told records given. ReachesEnd l remaining told records given (progress new))
 
 -- the fault is true of the text
 abbrev pub Faults : {R : Type 0} → (R → Option (List ℕ)) → TableReader R → TableFault → Type 0

@@ -1,4 +1,4 @@
--- The state of a reader of rows, and the root that waits until the geometry before it was returned.
+-- The state of a reader of rows, and the root that waits after the geometry before it.
 use Rattle.std.specs.Prelude.{◌≡◌, ◌⊎◌, ℤ, List, [], ◌∷◌, None, Bool, true, false}
 use Rattle.twkb_points.specs.Point.{Point}
 use Rattle.twkb_tree.specs.Limits.{Allowance}

@@ -71,10 +71,7 @@ fn digits_of(field: &[u8]) -> Option<i64>
     ensures some { IfSome result (λ id. IsIdField field.now id) }
     ensures positive { IfSome result (λ id. int_lt (pos 0) id ≡ true) }
 {
-    if field.is_empty() {
-        return None;
-    }
-    let first = field[0];
+    let first = *field.first()?;
     if first < b'1' || b'9' < first {
         return None;
     }
@@ -95,13 +92,10 @@ fn digits_of(field: &[u8]) -> Option<i64>
 fn negative_of(field: &[u8]) -> Option<i64>
     ensures some { IfSome result (λ id. IsIdField field.now id) }
 {
-    if field.is_empty() {
+    let [b'-', digits @ ..] = field else {
         return None;
-    }
-    if field[0] != b'-' {
-        return None;
-    }
-    let size = digits_of(&field[1..])?;
+    };
+    let size = digits_of(digits)?;
     Some(-size)
 }
 
@@ -189,7 +183,7 @@ pub fn parse_precision(field: &[u8]) -> Option<i8>
 }
 
 // Reads a precision from -8 to 7 from its canonical decimal of any length; `None` for any other
-// field. Out of line: few precisions have more than one digit.
+// field. Out of line: few precisions are negative.
 #[inline(never)]
 fn long_precision(field: &[u8]) -> Option<i8>
     ensures reads { Reads (IsPrecisionField field.now) result }
@@ -209,10 +203,7 @@ pub fn parse_optional_id(field: &[u8]) -> Option<Option<i64>>
     if field.is_empty() {
         return Some(None);
     }
-    match parse_id(field) {
-        Some(id) => Some(Some(id)),
-        None => None,
-    }
+    Some(Some(parse_id(field)?))
 }
 
 /// Reads a precision that may be missing: `Some(None)` for an empty field, `None` for a field that
@@ -224,10 +215,7 @@ pub fn parse_optional_precision(field: &[u8]) -> Option<Option<i8>>
     if field.is_empty() {
         return Some(None);
     }
-    match parse_precision(field) {
-        Some(precision) => Some(Some(precision)),
-        None => None,
-    }
+    Some(Some(parse_precision(field)?))
 }
 
 /// Appends the canonical decimal of a number: its digits without a leading zero, after a minus

@@ -8,7 +8,7 @@ use csv::ByteRecord;
 // The number of fields in the record of a row.
 pub(crate) const FIELD_COUNT: usize = 5;
 
-// The five fields of a row's record, read or to be written.
+// The five fields of a record, read or to be written.
 #[derive(Clone, Copy)]
 pub(crate) struct Fields<'a> {
     pub(crate) depth: &'a [u8],

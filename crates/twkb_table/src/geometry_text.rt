@@ -43,7 +43,8 @@ pub fn put_rows(geometry: &Geometry, text: &mut Vec<u8>) -> Result<(), AllocErro
 }
 
 // Writes the records of a geometry with this id at this depth, and of its parts and members below
-// it. Its depth and its nesting must together be below 2^31.
+// it. Its depth and its nesting must together be below 2^31. Takes memory for the text and for the
+// longest polyline.
 #[cycle(lines)]
 fn write_geometry(
     geometry: &Geometry,
@@ -71,7 +72,7 @@ fn write_geometry(
 }
 
 // Writes the record of a row with this depth, kind and id and with these points, and with no
-// precision: a part of a geometry has none.
+// precision: a part of a geometry has none. Takes memory for the text and for the polyline.
 fn write_part(
     depth: u32,
     kind: Kind,
@@ -93,7 +94,8 @@ fn write_part(
 }
 
 // Writes the records of the members of a collection, with these ids, at this depth, and of all that
-// is below them. The depth and the collection's nesting must together be at most 2^31.
+// is below them. The depth and the nesting of the members must together be at most 2^31. Takes
+// memory for the text and for the longest polyline.
 #[cycle(lines)]
 #[tactic(auto, using(twkb_tree::specs::Size::member_smaller))]
 fn write_members(
@@ -109,15 +111,15 @@ fn write_members(
 {
     let mut index = 0;
     for member in members.as_slice() {
-        let id = id_at(ids, index);
-        write_geometry(member, depth, id, records)?;
+        write_geometry(member, depth, id_at(ids, index), records)?;
         index += 1;
     }
     Ok(())
 }
 
 // Writes the records of the polygons of a multipolygon, with these ids, at this depth, which must
-// be below 2^32 - 1, and of their rings, one deeper.
+// be below 2^32 - 1, and of their rings, one deeper. Takes memory for the text and for the longest
+// polyline.
 fn write_areas(
     depth: u32,
     areas: &[Lines],
@@ -131,8 +133,7 @@ fn write_areas(
 {
     let mut index = 0;
     for rings in areas {
-        let id = id_at(ids, index);
-        write_part(depth, Kind::Polygon, id, &[], records)?;
+        write_part(depth, Kind::Polygon, id_at(ids, index), &[], records)?;
         write_lines(depth + 1, Kind::Ring, rings.as_slice(), &None, records)?;
         index += 1;
     }
@@ -140,7 +141,8 @@ fn write_areas(
 }
 
 // Writes the records of parts of this kind, with these ids, at this depth, each a list of points:
-// the rings of a polygon, or the linestrings of a multilinestring.
+// the rings of a polygon, or the linestrings of a multilinestring. Takes memory for the text and
+// for the longest polyline.
 fn write_lines(
     depth: u32,
     kind: Kind,
@@ -154,15 +156,14 @@ fn write_lines(
 {
     let mut index = 0;
     for line in lines {
-        let id = id_at(ids, index);
-        let points = line.as_slice();
-        write_part(depth, kind, id, points, records)?;
+        write_part(depth, kind, id_at(ids, index), line.as_slice(), records)?;
         index += 1;
     }
     Ok(())
 }
 
-// Writes the records of the points of a multipoint, with these ids, at this depth.
+// Writes the records of the points of a multipoint, with these ids, at this depth. Takes memory for
+// the text and for a polyline.
 fn write_points(
     depth: u32,
     points: &[Pt],
@@ -177,8 +178,7 @@ fn write_points(
     let mut index = 0;
     for point in points {
         let id = id_at(ids, index);
-        let points = from_ref(point);
-        write_part(depth, Kind::Point, id, points, records)?;
+        write_part(depth, Kind::Point, id, from_ref(point), records)?;
         index += 1;
     }
     Ok(())

@@ -22,7 +22,7 @@ impl RowHead<'_> {
     ghost use Rattle.std.specs.Prelude.{◌≡◌, ◌↔◌, ◌∷◌, [], IfSome, IsTrue};
     ghost use Rattle.twkb_flat.specs.Rows.{row_with};
     ghost use Rattle.twkb_table.specs.Judged.{Accepted};
-    ghost use Rattle.twkb_table.specs.Head.{head_row, most_points, HasNeedlessText, JudgedAs};
+    ghost use Rattle.twkb_table.specs.Head.{head_row, HasNeedlessText, JudgedAs};
 
     // The row without its points.
     #[inline(always)]
@@ -45,14 +45,6 @@ impl RowHead<'_> {
         !self.text.is_empty() && !has_points(self.kind)
     }
 
-    // The most points that the row may have by the limits.
-    #[inline(always)]
-    fn points_left(&self) -> u32
-        ensures { result ≡ most_points self.now }
-    {
-        self.limits.points().saturating_sub(self.row_place.points)
-    }
-
     // Fast path: the point of a row of kind point whose text is exactly one point, if its place
     // allows a point and the limits leave room for it. `None` does not say that the row is refused.
     #[inline(always)]
@@ -60,16 +52,13 @@ impl RowHead<'_> {
     fn one_point(&self) -> Option<Pt>
         ensures { IfSome result (λ point. JudgedAs self.now (Accepted (row_with (head_row self.now) (point ∷ [])))) }
     {
-        if self.kind != Kind::Point {
+        if self.kind != Kind::Point
+            || self.limits.points() <= self.row_place.points
+            || refused_count(&self.row_place, self.kind, 1).is_some()
+        {
             return None;
         }
-        if self.limits.points() <= self.row_place.points {
-            return None;
-        }
-        match refused_count(&self.row_place, self.kind, 1) {
-            None => decode_one(self.text),
-            Some(_) => None,
-        }
+        decode_one(self.text)
     }
 }
 
@@ -96,7 +85,7 @@ impl PointSource for RowHead<'_> {
         if self.has_needless_text() {
             return Err(Stop::Refused(RowReason::PolylineNotAllowed));
         }
-        let left = self.points_left();
+        let left = self.limits.points().saturating_sub(self.row_place.points);
         let start = points.count();
         match decode_into(self.text, left, points) {
             Ok(()) => {}

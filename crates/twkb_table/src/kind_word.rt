@@ -24,8 +24,8 @@ pub fn parse_kind(field: &[u8]) -> Option<Kind>
     }
 }
 
-// The only kind whose word can have ten letters and this first letter: a linestring for `l`, a
-// multipoint for `m`, and a collection for any other.
+// The kind whose word to compare with a field of ten bytes, by the field's first byte: a linestring
+// for `l`, a multipoint for `m`, and a collection for any other. The field is no other kind's word.
 #[inline(always)]
 fn kind_of_ten(first: u8) -> Kind
     ensures { result ≡ kind_of_ten first }
@@ -45,11 +45,7 @@ fn only_kind(field: &[u8], kind: Kind) -> Option<Kind>
     ensures word { IfSome result (λ _. field.now ≡ word_of kind) }
     ensures other { IfNone result (¬ (field.now ≡ word_of kind)) }
 {
-    if is_word(field, kind.word()) {
-        Some(kind)
-    } else {
-        None
-    }
+    is_word(field, kind.word()).then_some(kind)
 }
 
 // Whether two words are equal, which must have the same number of bytes, from 4 to 16. They are

@@ -16,7 +16,7 @@ use twkb_io::Tap;
 pub const RECORD_CAP: u64 = 1 << 32;
 
 // Makes a reader of `csv` over a tap, which has read nothing. It gives all records, the first one
-// too, with any number of fields, and the fields as they are.
+// too, with any number of fields, and the fields as they are. Takes no memory.
 pub(crate) fn new_reader<'a, R: Read>(alloc: Global, tap: &'a mut Tap<R>) -> Reader<&'a mut Tap<R>>
     ensures { HasGiven R.remaining (R.remaining (device_of tap.old)) [] result }
 {
@@ -26,8 +26,8 @@ pub(crate) fn new_reader<'a, R: Read>(alloc: Global, tap: &'a mut Tap<R>) -> Rea
         .from_reader(alloc, tap)
 }
 
-// Reads the next record into `last`, and returns whether there was one. The `Err` is `Source`: the
-// device failed, or memory was refused; nothing is then known of `last`.
+// Reads the next record into `last`, and returns whether there was one. Takes memory. The `Err` is
+// `Source`: the device failed, or memory was refused; nothing is then known of `last`.
 #[inline(always)]
 pub(crate) fn read_next<R: Read>(
     reader: &mut Reader<&mut Tap<R>>,
@@ -42,8 +42,9 @@ pub(crate) fn read_next<R: Read>(
 }
 
 // Reads the next record after the header into `last`, and returns whether there was one; if so,
-// adds 1 to `number`, which counts the records after the header. An `Err` is `Source`, as with
-// `read_next`, or `TooManyRecords` if the record's number in the table would be 2^32 or more.
+// adds 1 to `number`, which counts the records after the header. Takes memory. An `Err` is
+// `Source`, as with `read_next`, or `TooManyRecords` if the record's number in the table would be
+// 2^32 or more.
 #[inline(always)]
 pub(crate) fn next_record<R: Read>(
     reader: &mut Reader<&mut Tap<R>>,
@@ -53,10 +54,8 @@ pub(crate) fn next_record<R: Read>(
     ensures { ReadsRecord R.remaining reader.old (number.old + 1) result (fields_of last.new)
         reader.new (number.new + 1) }
 {
-    match read_next(reader, last) {
-        Ok(true) => {}
-        Ok(false) => return Ok(false),
-        Err(fault) => return Err(fault),
+    if !read_next(reader, last)? {
+        return Ok(false);
     }
     if u64::from(*number) + 2 >= RECORD_CAP {
         return Err(TableFault::TooManyRecords);
@@ -65,9 +64,9 @@ pub(crate) fn next_record<R: Read>(
     Ok(true)
 }
 
-// The fault to return if the last record read, the one with this number after the header, gave no
-// row: `Memory` if memory was refused, else `At` with the reason and the record's number in the
-// table, which is one more.
+// The fault to return if the last record read, the one with this number after the header, which has
+// number 0, was refused: `Memory` if memory was refused, else `At` with the reason and the record's
+// number in the table, which is one more.
 pub(crate) fn fault_at(number: u32, stop: Stop<RowReason>) -> TableFault
     ensures value { result ≡ fault_of (number + 1) stop }
 {

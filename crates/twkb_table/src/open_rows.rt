@@ -109,9 +109,7 @@ impl OpenRows {
         let depth = row.depth as usize;
         let has_id = row.id.is_some();
         if self.places.spilled() || depth >= self.places.len() {
-            let Ok(()) = write_apart(&mut self.places, depth, row.kind, has_id) else {
-                return Err(AllocError);
-            };
+            write_apart(&mut self.places, depth, row.kind, has_id)?;
         } else {
             write(self.places.as_mut_slice(), depth, row.kind, has_id);
         }

@@ -1,15 +1,15 @@
-//! The verdict on a record by what its row's place allows: the kind, the id, the precision and the
-//! number of points.
+//! The verdict on a record by what its row's place allows: the id, the precision and the number of
+//! points.
 ghost use Rattle.std.specs.Prelude.{◌≡◌, List, length, IfOk, IfErr, MatchOption};
 ghost use Rattle.twkb_points.specs.Point.{Point};
-ghost use Rattle.twkb_table.specs.Judged.{HasPlace, LacksPlace, HasId, LacksId, HasPrecision, LacksPrecision};
-ghost use Rattle.twkb_table.specs.Judged.{AllowsCount, RefusesCount, rule_reason, place_seen};
+ghost use Rattle.twkb_table.specs.Judged.{HasId, LacksId, HasPrecision, LacksPrecision, AllowsCount, RefusesCount};
+ghost use Rattle.twkb_table.specs.Judged.{rule_reason, place_seen};
 
 use crate::decimal::{parse_optional_id, parse_optional_precision};
 use crate::reason::RowReason;
 use twkb_polyline::PolyReason;
-use twkb_tree::row_checks::{Refusal, count_refusal, id_refusal, place_refusal, precision_refusal};
-use twkb_tree::{Kind, Limits, RowPlace};
+use twkb_tree::row_checks::{Refusal, count_refusal, id_refusal, precision_refusal};
+use twkb_tree::{Kind, RowPlace};
 
 /// The reason to refuse a record whose row is refused for `refusal`. Points that are out of range
 /// or too many are refused at byte 0 of their text. Takes no memory.
@@ -34,19 +34,6 @@ pub fn reason_of(refusal: Refusal) -> RowReason
     }
 }
 
-// The first reason why a row of this kind may not come at this place: its parent, its nesting or
-// the number of rows; `None` if it may.
-#[inline(always)]
-pub(crate) fn refused_place(limits: &Limits, row_place: &RowPlace, kind: Kind) -> Option<RowReason>
-    ensures judged { MatchOption result (HasPlace limits.now (place_seen row_place.now) kind)
-        (LacksPlace limits.now (place_seen row_place.now) kind) }
-{
-    match place_refusal(limits, row_place, kind) {
-        None => None,
-        Some(refusal) => Some(reason_of(refusal)),
-    }
-}
-
 // The reason why a row of this kind at this place may not have `count` points of its own, whatever
 // the limits are; `None` if it may.
 #[inline(always)]
@@ -55,10 +42,7 @@ pub(crate) fn refused_count(row_place: &RowPlace, kind: Kind, count: usize) -> O
         → MatchOption result (AllowsCount (place_seen row_place.now) kind points)
         (RefusesCount (place_seen row_place.now) kind points) }
 {
-    match count_refusal(row_place, kind, count) {
-        None => None,
-        Some(refusal) => Some(reason_of(refusal)),
-    }
+    Some(reason_of(count_refusal(row_place, kind, count)?))
 }
 
 // Reads the id of a row of this kind at this place, `None` if the field is empty; an `Err` is the

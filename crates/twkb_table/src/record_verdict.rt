@@ -12,11 +12,12 @@ use crate::decimal::parse_depth;
 use crate::fields::{FIELD_COUNT, Fields, five_fields};
 use crate::head::RowHead;
 use crate::kind_word::parse_kind;
-use crate::places::{read_id, read_precision, refused_place};
+use crate::places::{read_id, read_precision, reason_of};
 use crate::reason::RowReason;
 use csv::ByteRecord;
 use twkb_flat::{PointSource, Row, Stop};
 use twkb_points::Pt;
+use twkb_tree::row_checks::place_refusal;
 use twkb_tree::{Kind, Limits, OpenRow, RowPlace};
 
 // Judges a row of this kind by its place, its id and its precision. Returns the row, whose points
@@ -33,17 +34,11 @@ fn judge_at<'a>(
     ensures { JudgedBy (JudgedByPlace limits.now (place_seen row_place.now) kind id_field.now
         precision_field.now text.now) result }
 {
-    if let Some(reason) = refused_place(limits, row_place, kind) {
-        return Err(reason);
+    if let Some(refusal) = place_refusal(limits, row_place, kind) {
+        return Err(reason_of(refusal));
     }
-    let id = match read_id(row_place, kind, id_field) {
-        Ok(id) => id,
-        Err(reason) => return Err(reason),
-    };
-    let precision = match read_precision(row_place, precision_field) {
-        Ok(precision) => precision,
-        Err(reason) => return Err(reason),
-    };
+    let id = read_id(row_place, kind, id_field)?;
+    let precision = read_precision(row_place, precision_field)?;
     Ok(RowHead {
         limits: *limits,
         row_place: *row_place,
@@ -87,9 +82,9 @@ fn judge_fields<'a>(
 }
 
 // Judges a record after the header, except for its points, given the open rows, the root first, and
-// the numbers of rows and of points since the last root. Returns its row, whose points are still to
-// be read, or the first reason to refuse it (profile); if the row is returned, the verdict on its
-// points is the verdict on the record.
+// the numbers of rows and of points from the last root on. Returns its row, whose points are still
+// to be read, or the first reason to refuse it (profile); if the row is returned, the verdict on
+// its points is the verdict on the record.
 #[inline(always)]
 pub(crate) fn judge_head<'a>(
     limits: &Limits,
@@ -109,7 +104,7 @@ pub(crate) fn judge_head<'a>(
 }
 
 /// Judges a record after the header, given the open rows, the root first, and the numbers of rows
-/// and of points since the last root. Returns its row, whose points replace those in `points`. An
+/// and of points from the last root on. Returns its row, whose points replace those in `points`. An
 /// `Err` is `Memory` or the first reason to refuse the record (profile); after it nothing is known
 /// of `points`. Takes memory for the points alone.
 #[inline(always)]
@@ -134,8 +129,6 @@ pub fn judge(
         Err(reason) => return Err(Stop::Refused(reason)),
     };
     points.clear();
-    if let Err(fault) = head.append_to(points) {
-        return Err(fault);
-    }
+    head.append_to(points)?;
     Ok(head.row())
 }

@@ -54,7 +54,8 @@ impl RecordWriter {
         write_record(&mut self.writer, &fields)
     }
 
-    // Gives up the writer, and returns the text of all records. An `Err` is want of memory.
+    // Gives up the writer, and returns the text of all records. Takes memory; an `Err` is want of
+    // it.
     pub(crate) fn into_text(self) -> Result<Vec<u8>, AllocError>
         ensures { IfOk result (λ text. text.items ≡ text_of self.writer) }
     {
@@ -65,8 +66,8 @@ impl RecordWriter {
     }
 }
 
-// Appends a record of five fields to the text of a writer, which must be between two records. It
-// fails only if memory for the text is refused, since all records have as many fields.
+// Appends a record of five fields to the text of a writer, which must be between two records. Takes
+// memory for the text, and fails only if it is refused, since all records have as many fields.
 fn write_record(writer: &mut Writer<Vec<u8>>, fields: &Fields<'_>) -> Result<(), AllocError>
     requires ready { IsReady writer.old }
     ensures { OnOk result (Writes writer.old writer.new (row_text default_writer (record_seen fields.now))) }
@@ -98,8 +99,5 @@ fn number_field(number: Option<i64>, buffer: &mut Buffer) -> &[u8]
 fn widened(precision: Option<i8>) -> Option<i64>
     ensures { result ≡ precision }
 {
-    match precision {
-        Some(precision) => Some(i64::from(precision)),
-        None => None,
-    }
+    Some(i64::from(precision?))
 }

@@ -73,9 +73,8 @@ fn push_id(id: Option<i64>, head: &mut Piece<128>)
     ensures pushed { head.new ≡ head.old ++ optional id }
     ensures short { length head.new ≤ length head.old + 20 }
 {
-    match id {
-        Some(id) => push_number(id, head),
-        None => {}
+    if let Some(id) = id {
+        push_number(id, head);
     }
 }
 
@@ -87,8 +86,7 @@ fn push_precision(precision: Option<i8>, head: &mut Piece<128>)
     ensures pushed { head.new ≡ head.old ++ optional precision }
     ensures short { length head.new ≤ length head.old + 20 }
 {
-    match precision {
-        Some(precision) => push_number(i64::from(precision), head),
-        None => {}
+    if let Some(precision) = precision {
+        push_number(i64::from(precision), head);
     }
 }

@@ -15,7 +15,7 @@ use twkb_flat::{Flat, PointSource, Row, Stop};
 use twkb_points::Pt;
 use twkb_tree::{Kind, Limits};
 
-// The root of the next geometry, kept until the geometry before it is returned. A root is at depth
+// The root of the next geometry, kept until the call that returns that geometry. A root is at depth
 // 0 and has no id.
 #[derive(Clone, Copy)]
 pub(crate) struct Root {
@@ -77,8 +77,9 @@ impl RowReader {
     }
 
     // Reads a record as the root of the next geometry, which then waits. Before, no root may wait
-    // but that of a point that is not empty, so that no row can be its child. An `Err` is the first
-    // reason to refuse the record, or want of memory for its points, and makes the state `Spent`.
+    // but that of a point that is not empty, so that no row can be its child. Takes memory. An
+    // `Err` is the first reason to refuse the record, or want of memory for its points, and makes
+    // the state `Spent`.
     #[inline(always)]
     pub(crate) fn read_root(&mut self, csv_record: &ByteRecord) -> Result<(), Stop<RowReason>>
         requires { IsAlone (waiting self.old) }
@@ -140,8 +141,8 @@ impl RowReader {
 
     // Reads a record after the rows of a flat form, which must be those that `begin` and earlier
     // calls put there. Appends a row of the same geometry to them and returns true, or keeps the
-    // root of the next geometry, which then waits, and returns false. An `Err` is the first reason
-    // to refuse the record, or want of memory; after it nothing is known of the form.
+    // root of the next geometry, which then waits, and returns false. Takes memory. An `Err` is the
+    // first reason to refuse the record, or want of memory; after it nothing is known of the form.
     #[inline(always)]
     pub(crate) fn read_row(
         &mut self,
@@ -159,18 +160,14 @@ impl RowReader {
         let row = head.row();
         if row.depth == 0 {
             self.points.clear();
-            if let Err(fault) = head.append_to(&mut self.points) {
-                return Err(fault);
-            }
+            head.append_to(&mut self.points)?;
             self.state = State::Waiting(Root {
                 kind: row.kind,
                 precision: row.precision,
             });
             return Ok(false);
         }
-        if let Err(fault) = flat.push_from(row, &head) {
-            return Err(fault);
-        }
+        flat.push_from(row, &head)?;
         let Ok(()) = self.open_rows.open_row(&row) else {
             return Err(Stop::Memory);
         };

@@ -12,7 +12,7 @@ use csv::{ByteRecord, Reader};
 use std::alloc::Global;
 use std::io::Read;
 use std::mem::replace;
-use twkb_flat::Flat;
+use twkb_flat::{Flat, Stop};
 use twkb_io::Tap;
 use twkb_tree::{Geometry, Limits};
 
@@ -31,12 +31,6 @@ pub struct TableReader<'a, R> {
     // The flat form into which `next` reads rows.
     kept: Flat,
 }
-
-// The fault of a first record that is missing or not the header.
-const BAD_HEADER: TableFault = TableFault::At {
-    number: 1,
-    reason: RowReason::BadHeader,
-};
 
 impl<'a, R: Read> TableReader<'a, R> {
     ghost use Rattle.twkb_table.specs.Waiting.{IsAlone};
@@ -79,12 +73,10 @@ impl<'a, R: Read> TableReader<'a, R> {
         ensures stays { is_spent self.new ≡ is_err result }
     {
         flat.clear();
-        let is_spent = self.is_spent();
-        if is_spent {
+        if self.is_spent() {
             return Err(TableFault::Spent);
         }
-        let is_over = self.is_over();
-        if is_over {
+        if self.is_over() {
             return Ok(false);
         }
         match self.read_geometry(flat) {
@@ -112,12 +104,10 @@ impl<'a, R: Read> TableReader<'a, R> {
         ensures unchanged { IsOver self.old ⊎ (is_spent self.old ≡ true) → self.new ≡ self.old }
         ensures stays { is_spent self.new ≡ is_err result }
     {
-        let is_spent = self.is_spent();
-        if is_spent {
+        if self.is_spent() {
             return Err(TableFault::Spent);
         }
-        let is_over = self.is_over();
-        if is_over {
+        if self.is_over() {
             return Ok(None);
         }
         let mut flat = replace(&mut self.kept, Flat::new(self.alloc));
@@ -131,10 +121,7 @@ impl<'a, R: Read> TableReader<'a, R> {
     fn is_over(&self) -> bool
         ensures { result ≡ is_ended self.now }
     {
-        match self.rows.state {
-            State::Over => true,
-            _ => false,
-        }
+        matches!(self.rows.state, State::Over)
     }
 
     // Whether a call returned an error.
@@ -142,15 +129,12 @@ impl<'a, R: Read> TableReader<'a, R> {
     pub(crate) fn is_spent(&self) -> bool
         ensures { result ≡ is_spent self.now }
     {
-        match self.rows.state {
-            State::Spent => true,
-            _ => false,
-        }
+        matches!(self.rows.state, State::Spent)
     }
 
     // Reads the next geometry into a flat form, in place of its rows, and returns it as a tree;
-    // `None` at the table's end. An `Err` is as with `next_flat`, or `Memory` if there is none for
-    // the tree.
+    // `None` at the table's end. Takes memory. An `Err` is as with `next_flat`, or `Memory` if
+    // there is none for the tree.
     #[inline(never)]
     fn next_tree(&mut self, flat: &mut Flat) -> Result<Option<Geometry>, TableFault>
         ensures gives { IfOk result (λ found. IfSome found
@@ -161,10 +145,8 @@ impl<'a, R: Read> TableReader<'a, R> {
         ensures spent { (result ≡ Err TableFault.Spent) ↔ (is_spent self.old ≡ true) }
         ensures stays { is_spent self.new ≡ is_err result }
     {
-        match self.next_flat(flat) {
-            Ok(true) => {}
-            Ok(false) => return Ok(None),
-            Err(fault) => return Err(fault),
+        if !self.next_flat(flat)? {
+            return Ok(None);
         }
         let Ok(geometry) = flat.to_geometry(self.alloc) else {
             self.rows.stop(State::Spent);
@@ -174,8 +156,8 @@ impl<'a, R: Read> TableReader<'a, R> {
     }
 
     // Reads the next geometry into a flat form, which must be empty, and returns whether there was
-    // one. The reader must be neither at the end nor spent. An `Err`, as with `next_flat`, marks it
-    // as spent; nothing is then known of the form.
+    // one. The reader must be neither at the end nor spent. Takes memory. An `Err`, as with
+    // `next_flat`, marks the reader as spent; nothing is then known of the form.
     #[inline(always)]
     fn read_geometry(&mut self, flat: &mut Flat) -> Result<bool, TableFault>
         requires more { is_ended self.old ≡ false }
@@ -195,20 +177,16 @@ impl<'a, R: Read> TableReader<'a, R> {
 
     // Reads the next record after the rows of a flat form, which must be those of the geometry that
     // is being read. Appends a row of that geometry to them and returns true, or returns false if
-    // the record is the root of the next geometry, which then waits, or if the table ended. An
-    // `Err` is as with `next_flat`, and leaves the reader spent.
+    // the record is the root of the next geometry, which then waits, or if the table ended. Takes
+    // memory. An `Err` is as with `next_flat`, and leaves the reader spent.
     #[inline(always)]
     fn next_row(&mut self, flat: &mut Flat) -> Result<bool, TableFault>
         requires { Keeps self.old.rows flat.old }
         ensures { ReadsNextRow R.remaining (progress self.old) flat.old result flat.new (progress self.new) }
     {
-        match next_record(&mut self.reader, &mut self.last, &mut self.number) {
-            Ok(true) => {}
-            Ok(false) => {
-                self.rows.stop(State::Over);
-                return Ok(false);
-            }
-            Err(fault) => return Err(fault),
+        if !next_record(&mut self.reader, &mut self.last, &mut self.number)? {
+            self.rows.stop(State::Over);
+            return Ok(false);
         }
         match self.rows.read_row(&self.last, flat) {
             Ok(more) => Ok(more),
@@ -218,7 +196,7 @@ impl<'a, R: Read> TableReader<'a, R> {
 
     // Makes sure that the root of the next geometry waits, and returns whether there is one. If no
     // record was read, reads the header and the first root. The reader must be neither at the end
-    // nor spent. An `Err` is as with `next_flat`, and marks the reader as spent.
+    // nor spent. Takes memory. An `Err` is as with `next_flat`, and marks the reader as spent.
     #[inline(always)]
     fn find_root(&mut self) -> Result<bool, TableFault>
         requires more { is_ended self.old ≡ false }
@@ -232,22 +210,20 @@ impl<'a, R: Read> TableReader<'a, R> {
     }
 
     // Reads the header and the first root, which then waits, and returns whether there is one. No
-    // record may have been read before. An `Err` is as with `next_flat`, and marks the reader as
-    // spent.
+    // record may have been read before. Takes memory. An `Err` is as with `next_flat`, and marks
+    // the reader as spent.
     #[inline(never)]
     fn read_first(&mut self) -> Result<bool, TableFault>
         requires { self.old.rows.state ≡ State.Fresh }
         ensures { FindsRoot R.remaining self.old result self.new }
     {
-        match self.read_header() {
-            Ok(()) => self.next_root(),
-            Err(fault) => Err(fault),
-        }
+        self.read_header()?;
+        self.next_root()
     }
 
-    // Reads the first record of the table. An `Err` is `BadHeader` at record 1 if the record is
-    // missing or is not the header, or `Source`. No record may have been read before. Leaves the
-    // state `Spent`, also after an `Ok`.
+    // Reads the first record of the table. Takes memory. An `Err` is `BadHeader` at record 1 if the
+    // record is missing or is not the header, or `Source`. No record may have been read before.
+    // Leaves the state `Spent`, also after an `Ok`.
     #[inline(always)]
     fn read_header(&mut self) -> Result<(), TableFault>
         requires { self.old.rows.state ≡ State.Fresh }
@@ -255,20 +231,15 @@ impl<'a, R: Read> TableReader<'a, R> {
     {
         self.rows.stop(State::Spent);
         self.number = 0;
-        match read_next(&mut self.reader, &mut self.last) {
-            Ok(true) => {}
-            Ok(false) => return Err(BAD_HEADER),
-            Err(fault) => return Err(fault),
-        }
-        if !is_header(&self.last) {
-            return Err(BAD_HEADER);
+        if !read_next(&mut self.reader, &mut self.last)? || !is_header(&self.last) {
+            return Err(fault_at(0, Stop::Refused(RowReason::BadHeader)));
         }
         Ok(())
     }
 
     // Reads the next record as a root, which then waits, and returns whether there is one. No root
-    // may wait before but that of a point that is not empty: then too only a root can come next. An
-    // `Err` is as with `next_flat`, and marks the reader as spent.
+    // may wait before but that of a point that is not empty: then too only a root can come next.
+    // Takes memory. An `Err` is as with `next_flat`, and marks the reader as spent.
     #[inline(always)]
     pub(crate) fn next_root(&mut self) -> Result<bool, TableFault>
         requires { IsAlone (waiting self.old.rows) }

@@ -13,7 +13,7 @@ use Rattle.twkb_tree.specs.Limits.{Allowance, IsAllowance, largest_limits}
 use Rattle.twkb_tree.specs.Tree.{Tree, Trees, end, ◌▷◌, trees, members, AreTrees, nodes}
 use Rattle.twkb_tree.specs.Rows.{Row, rows, rows_of, AreValid, AreValidRows, AreGeometries, BeginValidRows}
 use Rattle.twkb_tree.specs.Rows.{AreRowsOfOne, AreValidRowsOfOne}
-use Rattle.twkb_tree.specs.RowLemmas.{length-rows_with}
+use Rattle.twkb_tree.proofs.TreeLemmas.{length-rows_with}
 use Rattle.twkb_tree.specs.Admits.{IsAdmitted, geometry_rows, weight, Accepts, AreAccepted, since_root, IsOneRoot}
 use Rattle.twkb_tree.specs.Admits.{Continues, is_member, nest_kept, point_count}
 use Rattle.twkb_tree.specs.declared.limits.TheConstants.{NEST_CAP}

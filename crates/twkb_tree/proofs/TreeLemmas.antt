@@ -1,11 +1,15 @@
 -- Trees of shapes and their members, as lists, and lists compared or copied item by item.
 use Rattle.std.proofs.Common.{◌≡◌, List, [], ◌∷◌, ◌++◌, length, suc, refl, ap, ℤ, None, subst, sym, ◌∙◌, ℕ, ◌+◌, ◌-◌}
 use Rattle.std.proofs.Common.{◌^◌, ◌<◌, min, max, get_or, drop, true, arith, zero, Option, Some, add-one, ◌≤◌, take}
-use Rattle.std.proofs.Common.{false}
+use Rattle.std.proofs.Common.{false, length-append}
 use Rattle.std.specs.List.{AllByRecursion}
 use Rattle.std.specs.Prelude.{Bool, IsTrue, ◌↔◌, ◌&&◌}
 use Rattle.twkb_tree.specs.Tree.{Tree, trees, count, IsTree, AreTrees, members, precision_of, IsPrecision, HasIds}
-use Rattle.twkb_tree.specs.Tree.{nest, nest_all, saturated, Ids, simple, collection}
+use Rattle.twkb_tree.specs.Tree.{nest, nest_all, saturated, Ids, simple, collection, Simple, point, line, polygon}
+use Rattle.twkb_tree.specs.Tree.{multi_point, multi_line, multi_polygon, Trees, end, ◌▷◌, nodes_in, area_nodes, nodes}
+use Rattle.twkb_tree.specs.Tree.{nodes_all}
+use Rattle.twkb_tree.specs.declared.kind.Kind.TheVariants as Kind
+use Rattle.twkb_points.specs.Point.{Point as Pt}
 use Rattle.twkb_tree.specs.Limits.{IsTreeInRange, AreTreesInRange, has_precision, have_precision}
 use Rattle.twkb_tree.specs.Shape.{tree_of, HasFitIds, HasTrees, IsShapeInRange}
 use Rattle.twkb_tree.specs.declared.geometry.Shape.{Shape}
@@ -13,9 +17,7 @@ use Rattle.twkb_tree.specs.declared.geometry.Shape.TheVariants.{Point, Line, Pol
 use Rattle.twkb_tree.specs.declared.geometry.Shape.TheVariants.{MultiPolygon, Collection}
 use Rattle.std.proofs.lemmas.List.{at_drop_more, take_more_same, take_all, get_or_default, take_more}
 use Rattle.twkb_tree.specs.Rows.{Row, first_id, other_ids, ids_from, rows_of_each, rows_with, own_row, member_rows}
-use Rattle.twkb_tree.specs.Rows.{rows_under}
-
--- ==== Trees of shapes, and their members as lists.
+use Rattle.twkb_tree.specs.Rows.{rows_under, plain_row, rows_below, polygon_rows}
 
 -- ==== Members as a list and as trees, and lists with one more item.
 
@@ -96,8 +98,6 @@ same_trees g h s t r same_precision g_is h_is same_shape = (
   λ so. sym g_is ∙ (λ i. tree_of (same_precision i) (same_shape.0 so i)) ∙ h_is,
   λ (e : g ≡ h). same_shape.1 (tree_of-shape (precision_of g) (precision_of h) s t (g_is ∙ e ∙ sym h_is)),
 )
-
--- ==== One more member of a collection, and members with their ids one after the other.
 
 -- ==== One more member of a collection, in the count of levels and in the test of precisions.
 
@@ -195,6 +195,54 @@ pub under_shape : (d : ℕ) (p : ℤ) (shape told : Shape) (g : Tree) → tree_o
     → shape ≡ told → rows_under d (tree_of p told) ≡ rows_under d g
 under_shape d p shape told g whole is = ap (λ (s : Shape). rows_under d (tree_of p s)) (sym is)
     ∙ ap (rows_under d) whole
+
+-- ==== A geometry has as many rows as nodes.
+
+-- each item gives one row, so there are as many rows as items
+length-rows_of_one : {A : Type 0} (f : Option ℤ → A → Row) (ids : Ids) (xs : List A)
+    → length (rows_of_each (λ id x. f id x ∷ []) ids xs) ≡ length xs
+length-rows_of_one f ids [] = omega arith
+length-rows_of_one f ids (x ∷ xs) = omega (arith, length-rows_of_one f (other_ids ids) xs)
+
+length-polygon_rows : (d : ℕ) (ids : Ids) (areas : List (List (List Pt)))
+    → length (rows_of_each (polygon_rows d) ids areas) ≡ area_nodes areas
+length-polygon_rows d ids [] = omega arith
+length-polygon_rows d ids (a ∷ others) =
+    omega (
+      arith,
+      length-append (polygon_rows d (first_id ids) a)
+          (rows_of_each (polygon_rows d) (other_ids ids) others),
+      length-rows_of_one (λ id ring. plain_row (suc d) Kind.Ring id ring) None a,
+      length-polygon_rows d (other_ids ids) others,
+    )
+
+length-rows_below : (d : ℕ) (s : Simple) → length (rows_below d s) + 1 ≡ nodes_in s
+length-rows_below d (point o) = omega arith
+length-rows_below d (line ps) = omega arith
+length-rows_below d (polygon rings) = omega
+    (arith, length-rows_of_one (λ id ring. plain_row d Kind.Ring id ring) None rings)
+length-rows_below d (multi_point ids ps) = omega
+    (arith, length-rows_of_one (λ id p. plain_row d Kind.Point id (p ∷ [])) ids ps)
+length-rows_below d (multi_line ids lines) = omega
+    (arith, length-rows_of_one (λ id ps. plain_row d Kind.Linestring id ps) ids lines)
+length-rows_below d (multi_polygon ids areas) = omega (arith, length-polygon_rows d ids areas)
+
+mutual
+  pub length-rows_with : (id : Option ℤ) (d : ℕ) (g : Tree) → length (rows_with id d g) ≡ nodes g
+  length-rows_with id d (simple p s) = omega (arith, length-rows_below (suc d) s)
+  length-rows_with id d (collection p ids gs) = omega (arith, length-member_rows (suc d) ids gs)
+
+  length-member_rows : (d : ℕ) (ids : Ids) (gs : Trees) → length (member_rows d ids gs) ≡ nodes_all gs
+  length-member_rows d ids end = omega arith
+  length-member_rows d ids (g ▷ gs) =
+      omega (
+        arith,
+        length-append (rows_with (first_id ids) d g) (member_rows d (other_ids ids) gs),
+        length-rows_with (first_id ids) d g,
+        length-member_rows d (other_ids ids) gs,
+      )
+
+pub ruleset row_counts = (length-rows_with)
 
 -- ==== Two lists, compared pair by pair.
 

@@ -6,7 +6,6 @@ pub mod Kind
 pub mod Open
 pub mod Refusal
 pub mod RowGrowth
-pub mod RowLemmas
 pub mod Rows
 pub mod RowSamples
 pub mod Shape

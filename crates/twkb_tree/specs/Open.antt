@@ -84,13 +84,13 @@ abbrev pub child_of : Option OpenRow → Option Row
 child_of None = None
 child_of (Some o) = child_by o.child_ids
 
--- a count since the last root, for a row at this depth: it is 0 for a root
+-- a count from the last root on, for a row at this depth: it is 0 for a root
 abbrev pub count_at : ℕ → ℕ → ℕ
 count_at zero n = 0
 count_at (suc d) n = n
 
 -- the reason to refuse a row at this depth, by the open rows and the counts of rows and points
--- since the last root
+-- from the last root on
 abbrev pub open_refusal_at : Allowance → ℕ → List OpenRow → ℕ → ℕ → Row → Option Refusal
 open_refusal_at l d os nodes points r =
     first_failed (checks_under l (nat_le d (length os)) (row_of (open_parent d os))

@@ -49,7 +49,7 @@ impl Members {
 impl Geometry {
     /// The number of rows that the geometry has in a table, at most `u64::MAX`: one for itself, and
     /// one for each member and ring at any depth. Takes no memory.
-    #[tactic(auto, using(crate::specs::RowLemmas::row_counts))]
+    #[tactic(auto, using(crate::proofs::TreeLemmas::row_counts))]
     pub fn nodes(&self) -> u64
         ensures { result ≡ saturated (length (rows 0 self.now)) }
     {

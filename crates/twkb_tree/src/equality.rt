@@ -4,19 +4,9 @@ ghost use Rattle.twkb_tree.specs.TreeCode.{tree_eq, tree_eq_partial, tree_eq_equ
 
 use crate::geometry::{Geometry, Members, Shape};
 use crate::lists::{Element, Elements, Ids};
-use twkb_points::Pt;
 
-fn same_points(a: &Option<Pt>, b: &Option<Pt>) -> bool
-    ensures { IsTrue result ↔ (a.now ≡ b.now) }
-{
-    match (a, b) {
-        (None, None) => true,
-        (Some(a), Some(b)) => a.same(b),
-        _ => false,
-    }
-}
-
-fn same_ids(a: &Ids, b: &Ids) -> bool
+// Whether both options are `None`, or both hold values and these are equal.
+fn same_option<T: Element>(a: &Option<T>, b: &Option<T>) -> bool
     ensures { IsTrue result ↔ (a.now ≡ b.now) }
 {
     match (a, b) {
@@ -30,10 +20,11 @@ fn same_ids(a: &Ids, b: &Ids) -> bool
 fn same_with<T: Element>(a: &Elements<T>, b: &Elements<T>, ids: &Ids, others: &Ids) -> bool
     ensures { IsTrue result ↔ ((a.now ≡ b.now) × (ids.now ≡ others.now)) }
 {
-    a.same(b) && same_ids(ids, others)
+    a.same(b) && same_option(ids, others)
 }
 
 impl Members {
+    // Whether the two lists of members are equal.
     #[cycle(same)]
     fn same(&self, other: &Members) -> bool
         ensures { IsTrue result ↔ (self.now ≡ other.now) }
@@ -53,12 +44,13 @@ impl Members {
 }
 
 impl Shape {
+    // Whether the two shapes are equal, with the ids of their members.
     #[cycle(same)]
     fn same(&self, other: &Shape) -> bool
         ensures { IsTrue result ↔ (self.now ≡ other.now) }
     {
         match (self, other) {
-            (Shape::Point(a), Shape::Point(b)) => same_points(a, b),
+            (Shape::Point(a), Shape::Point(b)) => same_option(a, b),
             (Shape::Line(a), Shape::Line(b)) => a.same(b),
             (Shape::Polygon(a), Shape::Polygon(b)) => a.same(b),
             (Shape::MultiPoint(a, ids), Shape::MultiPoint(b, others)) => same_with(
@@ -69,13 +61,14 @@ impl Shape {
                 a, b, ids, others,
             ),
             (Shape::Collection(a, ids), Shape::Collection(b, others)) => a.same(b)
-                && same_ids(ids, others),
+                && same_option(ids, others),
             _ => false,
         }
     }
 }
 
 impl Geometry {
+    // Whether the two geometries are equal, as `eq` returns it.
     #[cycle(same)]
     fn same(&self, other: &Geometry) -> bool
         ensures { IsTrue result ↔ (self.now ≡ other.now) }

@@ -42,7 +42,8 @@ pub enum Shape {
     Collection(Members, Ids),
 }
 
-/// A shape with a precision, the number of its coordinates' decimals. A contract sees the tree.
+/// A shape with a precision, the number of its coordinates' decimals; each member of a collection
+/// has its own. A contract sees the tree.
 #[cycle(geometry)]
 #[derive(Debug, Drop)]
 pub struct Geometry {
@@ -136,10 +137,7 @@ fn ids_fit(count: usize, ids: &Ids) -> bool
 {
     match ids {
         None => true,
-        Some(ids) => {
-            let length = ids.as_slice().len();
-            0 < length && length == count
-        }
+        Some(ids) => 0 < count && ids.as_slice().len() == count,
     }
 }
 
@@ -195,7 +193,8 @@ impl Geometry {
         Ok(Geometry { precision, shape })
     }
 
-    /// The number of decimals of the geometry's coordinates, -8 to 7. Takes no memory.
+    /// The number of decimals of the geometry's coordinates, -8 to 7; each member of a collection
+    /// has its own. Takes no memory.
     pub fn precision(&self) -> i8
         ensures value { result ≡ precision_of self.now }
         ensures sound { IsTree self.now }

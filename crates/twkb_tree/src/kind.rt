@@ -56,9 +56,6 @@ impl Kind {
     pub fn name(self) -> &'static str
         ensures { result.now ≡ word_of self }
     {
-        match str::from_utf8(self.word()) {
-            Ok(name) => name,
-            Err(_) => unreachable!(),
-        }
+        str::from_utf8(self.word()).unwrap()
     }
 }

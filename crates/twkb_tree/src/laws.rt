@@ -120,7 +120,7 @@ pub fn refused()
 {}
 
 /// Before any row no row is open, and a row that skips no depth changes the open rows as `opened`
-/// states. A row and its points are added to the numbers of rows and points since the last root,
+/// states. A row and its points are added to the numbers of rows and points from the last root on,
 /// which begin at 0 for a root; after accepted rows both numbers are within the limits. The open
 /// rows and these two numbers decide why a row is refused and, after rows of one geometry or none,
 /// whether it continues them.

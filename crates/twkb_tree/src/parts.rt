@@ -27,13 +27,10 @@ pub fn own_parts(shape: &Shape) -> (Kind, &[Pt])
     }
 }
 
-/// The id of the member at place `index`, from 0; `None` if the members have no ids, or fewer.
-/// Takes no memory.
+/// The id of the member at place `index`, from 0; `None` if the members have no ids, or at most
+/// `index` of them. Takes no memory.
 pub fn id_at(ids: &Ids, index: usize) -> Option<i64>
     ensures { result ≡ first_id (ids_from index ids.now) }
 {
-    match ids {
-        None => None,
-        Some(ids) => ids.as_slice().get(index).copied(),
-    }
+    ids.as_ref()?.as_slice().get(index).copied()
 }

@@ -20,8 +20,8 @@ impl RowPlace {
     ghost use Rattle.twkb_tree.specs.Open.{row_place_at};
 
     /// The place of a row at `depth`, by the open rows, the root first, and the numbers of rows and
-    /// points since the last root; a root has no parent, and both numbers are 0. `None` if `depth`
-    /// is greater than the number of open rows. Takes no memory.
+    /// points from the last root on; a root has no parent, and both numbers are 0. `None` if
+    /// `depth` is greater than the number of open rows. Takes no memory.
     pub fn at(depth: u32, rows: &[OpenRow], nodes: u32, points: u32) -> Option<RowPlace>
         ensures stands { MatchOption result (length rows.now < depth)
             (λ row_place. (depth ≤ length rows.now)

@@ -42,12 +42,8 @@ impl Geometry {
     {
         // lets proofs know that it is a tree with its points in range
         let _learnt = self.precision();
-        if self.nest() > u64::from(limits.nest()) {
-            return false;
-        }
-        if self.count_nodes() > u64::from(limits.nodes()) {
-            return false;
-        }
-        self.points() <= u64::from(limits.points())
+        self.nest() <= u64::from(limits.nest())
+            && self.count_nodes() <= u64::from(limits.nodes())
+            && self.points() <= u64::from(limits.points())
     }
 }

@@ -18,7 +18,7 @@ use Rattle.twkb_tree.specs.Rows.{kind_in}
 use Rattle.twkb_tree.specs.Tree.{Tree, Ids, Simple, point, line, polygon, multi_point, multi_line, multi_polygon}
 use Rattle.twkb_tree.specs.Tree.{flatten, points_in, point_list, HasIds, IdsFit}
 use Rattle.twkb_tree.specs.Limits.{largest_limits, IsValid}
-use Rattle.twkb_tree.specs.RowLemmas.{length-rows_with}
+use Rattle.twkb_tree.proofs.TreeLemmas.{length-rows_with}
 use Rattle.twkb_tree.proofs.RowForest.{both_true, within_test}
 use Rattle.twkb_tree.proofs.RowLaws.{AreDeep, row_points-with, admitted_rows, valid_depths}
 use Rattle.twkb_flat.specs.Rows.{row_depth_cap, row_with, IsNode}

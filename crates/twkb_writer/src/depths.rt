@@ -56,7 +56,7 @@ impl Depths {
         }
     }
 
-    // The totals of the rows at a depth from 0 to 35.
+    // The totals of the rows at a depth, which must be from 0 to 35.
     #[inline(always)]
     pub(crate) fn at(&self, depth: usize) -> &RowTotals
         requires { depth < DEPTHS }
@@ -65,7 +65,7 @@ impl Depths {
         &self.by_depth[depth]
     }
 
-    // Sets the totals at a depth from 0 to 35 to those of no rows.
+    // Sets the totals at a depth, which must be from 0 to 35, to those of no rows.
     #[inline(always)]
     fn blank_at(&mut self, depth: usize)
         requires { depth < DEPTHS }
@@ -76,8 +76,8 @@ impl Depths {
         }
     }
 
-    // Sets the totals of the rows at a depth from 0 to 34, and sets those at the depth below it to
-    // those of no rows.
+    // Sets the totals of the rows at a depth, which must be from 0 to 34, to `own`, and those at
+    // the depth below it to those of no rows.
     #[inline(always)]
     pub(crate) fn put(&mut self, depth: usize, own: RowTotals)
         requires { depth ≤ row_depth_cap }

@@ -54,8 +54,8 @@ fn put_box<S: Sink>(entry: &Entry, gatherer: &mut Gatherer<'_, '_, '_, S, S::Fau
     }
 }
 
-// Puts the header of a geometry with this precision, whose own row is the node: type byte and
-// metadata byte, the size in full style, and the box if its entry has one.
+// Puts the header of a geometry whose own row is the node, with this precision, from -8 to 7: type
+// byte and metadata byte, the size in full style, and the box if its entry has one.
 pub(crate) fn put_header<S: Sink>(
     style: Style,
     node: &Node,

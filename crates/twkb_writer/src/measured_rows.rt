@@ -24,8 +24,8 @@ use twkb_flat::{Flat, Node, NodeId, Work};
 use twkb_grammar::Style;
 
 // Returns `tail`, the totals of the points after a node's own in its geometry, with the node's own
-// before them. `tail.bytes` must be at most 2^30, and `all` may have at most 2^24 points. Reads
-// each own point once, two at a time, from the last to the first.
+// before them. The node's points must be among `all`, which must have at most 2^24 points, and
+// `tail.bytes` must be at most 2^30. Reads each own point once, from the last to the first.
 #[inline(always)]
 pub(crate) fn take_points<P: PlacedPoints>(
     all: &P,
@@ -61,9 +61,10 @@ pub(crate) fn take_points<P: PlacedPoints>(
     points.tail().with_first(first)
 }
 
-// Adds a row that is a geometry itself, with this precision, to the totals at its depth, clears
-// those at the depth below, and returns the row's entry. `points` are the totals of the geometry's
-// points, without those of collection members. No total may be above 2^30 rows or 2^40 bytes.
+// Adds a row, which must be a geometry itself with this precision, to the totals at its depth,
+// clears those at the depth below, and returns the row's entry. `points` are the totals of the
+// geometry's points, without those of collection members. The depth must be at most 34, and no
+// total may be above 2^30 rows or 2^40 bytes.
 #[inline(always)]
 fn take_geometry(
     style: Style,
@@ -88,7 +89,8 @@ fn take_geometry(
 }
 
 // Adds a row, which must be a component of a geometry, to the totals at its depth, and clears those
-// at the depth below. No total may be above 2^30 rows or 2^40 bytes.
+// at the depth below. The depth must be at most 34, and no total may be above 2^30 rows or 2^40
+// bytes.
 #[inline(always)]
 fn take_component(node: &Node, by_depth: &mut Depths)
     requires deep { node.now.row.depth ≤ row_depth_cap }
@@ -104,8 +106,9 @@ fn take_component(node: &Node, by_depth: &mut Depths)
 }
 
 // Adds a row to the totals at its depth, clears those at the depth below, and returns the row's
-// entry if it is a geometry itself. `points` are the totals of the points from the row on to the
-// end of its geometry. No total may be above 2^30 rows or 2^40 bytes.
+// entry if it is a geometry itself, else `None`. `points` are the totals of the points from the row
+// on up to the next geometry. The depth must be at most 34, and no total may be above 2^30 rows or
+// 2^40 bytes.
 #[inline(always)]
 pub(crate) fn take_row(
     style: Style,
@@ -127,8 +130,8 @@ pub(crate) fn take_row(
     }
 }
 
-// Appends an entry, or nothing if it is `None`. Takes memory if the vector has no room; for the
-// first entry it takes room for `most` entries at once.
+// Appends an entry, or nothing if it is `None`. Takes memory if the vector has no room for it or,
+// before the first entry, for `most` entries. An `Err` changes nothing.
 #[inline(always)]
 pub(crate) fn keep(
     entries: &mut Vec<Entry>,
@@ -158,8 +161,8 @@ pub(crate) fn before_row(node: &Node, points: TailTotals) -> TailTotals
 }
 
 // Measures a flat form in a style, row by row from the last to the first, and replaces the entries
-// and the depths. Reads each node and each point once. Takes memory for the entries if the vector
-// has too little room; after an `Err` they are incomplete.
+// and the depths. On `Ok` each node and each point was read once. Takes memory for the entries if
+// the vector has too little room; after an `Err` they are incomplete.
 fn measure_rows(
     flat: &Flat,
     style: Style,
@@ -187,9 +190,9 @@ fn measure_rows(
     Ok(())
 }
 
-// Measures a flat form in a style and replaces the entries. Reads each node and each point once.
-// Takes memory for the entries if the vector has too little room; after an `Err` they are
-// incomplete.
+// Measures a flat form in a style and replaces the entries. `depths` may hold the totals of any
+// rows, and may be overwritten. On `Ok` each node and each point was read once. Takes memory for
+// the entries if the vector has too little room; after an `Err` they are incomplete.
 #[inline(always)]
 fn measure_entries(
     flat: &Flat,
@@ -219,9 +222,10 @@ pub(crate) fn count_measured(points: u32, nodes: u32, entries: usize, work: &mut
 }
 
 /// Measures a flat form in a style and replaces the sizes: one entry for each TWKB geometry in
-/// preorder, none if there is no node. Reads each node and each point once, in one pass, and counts
-/// the reads, nodes, points and entries. Takes memory for the entries if they have too little room;
-/// after an `Err` they are incomplete.
+/// preorder, none if there is no node. `depths` may hold the totals of any rows, and may be
+/// overwritten. Reads each node and each point once, in one pass, and counts the reads, nodes,
+/// points and entries; after an `Err` the entries and the counts are incomplete. Takes memory for
+/// the entries if they have too little room; room for one for each node is enough.
 pub fn measure_into(
     flat: &Flat,
     style: Style,
@@ -245,7 +249,8 @@ pub fn measure_into(
 
 /// Measures a flat form in a style, and returns its sizes: one entry for each TWKB geometry in
 /// preorder, none if there is no node. Reads each node and each point once, in one pass, and counts
-/// the reads, nodes, points and entries. Takes memory for the entries alone.
+/// the reads, nodes, points and entries; after an `Err` the counts are incomplete. Takes memory for
+/// the entries alone.
 pub fn measure_flat(
     alloc: Global,
     flat: &Flat,

@@ -26,7 +26,8 @@ use twkb_tree::{Element, Geometry, Ids, Kind, Lines, Members, Pts, Shape, id_at}
 struct RowPass {
     // The totals of the rows at each depth.
     depths: Depths,
-    // The totals of the points from the row added last up to the next geometry.
+    // The totals of the points of the rows before the first geometry among those added; of no
+    // points if the row added last is one.
     tail: TailTotals,
 }
 

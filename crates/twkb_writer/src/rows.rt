@@ -18,8 +18,8 @@ use twkb_io::Sink;
 use twkb_points::Cursor;
 use twkb_tree::Kind;
 
-// Puts the count of members, and the ids of the node's members if `members.named` is true. Reads
-// each member once if so, else none.
+// Puts the count of members, and the ids of the node's members if `members.named` is true. `at`
+// must be a node of `flat`. Reads each member once if ids are put, else none.
 fn put_members<S: Sink>(
     flat: &Flat,
     at: &PlacedNode,
@@ -38,9 +38,9 @@ fn put_members<S: Sink>(
     put_ids(flat, at, gatherer, work);
 }
 
-// Puts what comes between a node's header, if it has one, and its points: nothing for a point, the
-// count of points for a linestring or ring, else the count of members or rings and, if
-// `members.named` is true, their ids. Reads each member at most once.
+// Puts the counts and ids of a node, which come before its points: nothing for a point, the count
+// of points for a linestring or ring, else the count of members or rings and, if `members.named` is
+// true, their ids. `at` must be a node of `flat`. Reads each member at most once.
 #[inline(always)]
 fn put_counts<S: Sink>(
     flat: &Flat,
@@ -65,8 +65,8 @@ fn put_counts<S: Sink>(
 }
 
 // Puts the bytes between a geometry's header and the points of its own row: its count, if its kind
-// has one, and the ids of its members, if they have any; nothing if it has no body. Reads each
-// member at most once.
+// has one, and the ids of its members, if they have any; nothing if it has no body. `at` must be a
+// node of `flat`. Reads each member at most once.
 #[inline(always)]
 fn put_own<S: Sink>(
     flat: &Flat,
@@ -90,7 +90,7 @@ fn put_own<S: Sink>(
 }
 
 // Puts the bytes of a component of a geometry before its points: its count of points or rings, or
-// nothing for a point. Reads each ring once.
+// nothing for a point. `at` must be a node of `flat`. Reads each ring once.
 #[inline(always)]
 fn put_component<S: Sink>(
     flat: &Flat,
@@ -118,7 +118,8 @@ struct RowStart {
 }
 
 // Where the points of a row start, and the index of the entry after the row's: at (0, 0) and one
-// entry further if the row has a precision, as a geometry itself has; else at `start`.
+// entry further if the row has a precision, as a geometry itself has; else at `start`. The index
+// must stay below 2^64.
 #[inline(always)]
 fn start_of_points(precision: Option<i8>, start: RowStart) -> RowStart
     requires { start.entry + entry_count precision < 2 ^ 64 }
@@ -135,8 +136,8 @@ fn start_of_points(precision: Option<i8>, start: RowStart) -> RowStart
 }
 
 // Puts the bytes of a row before its points: for a geometry itself, whose entry must be at index
-// `entry`, its header, count and ids; for a component its count. Reads each of its members at most
-// once.
+// `entry`, its header, and its count and ids if it has them; for a component its count if it has
+// one. `at` must be a node of `job.flat`. Reads each of its members at most once.
 #[inline(always)]
 fn put_lead<S: Sink>(
     job: &Job<'_>,
@@ -161,9 +162,9 @@ fn put_lead<S: Sink>(
     }
 }
 
-// Puts the bytes of all rows of the form in preorder, in one pass, until the sink has refused a
-// put. There must be an entry for each geometry. Reads each node at most twice and each point at
-// most once.
+// Puts the bytes of all rows of the form in preorder, in one pass, but begins no row after the sink
+// has refused a put. There must be an entry for each geometry. Reads each node at most twice and
+// each point at most once.
 pub(crate) fn put_rows<S: Sink>(
     job: &Job<'_>,
     gatherer: &mut Gatherer<'_, '_, '_, S, S::Fault>,

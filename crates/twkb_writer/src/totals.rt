@@ -14,8 +14,8 @@ use twkb_points::{Bounds, merged};
 use twkb_tree::Kind;
 
 // Totals of the rows at one depth, from a row to the last before a row of smaller depth, with those
-// of all rows below them. Sums of bytes in the methods must be at most 2^40, so that no sum
-// overflows.
+// of all rows below them. Each `ids` and `bytes` that a method adds up must be at most 2^40, so
+// that no sum overflows.
 #[derive(Clone, Copy)]
 pub(crate) struct RowTotals {
     // The number of rows at this depth.
@@ -96,8 +96,8 @@ impl RowTotals {
         }
     }
 
-    // The number of bytes between the header, if any, of a row above the rows of `self` and its
-    // points: its count, and the ids if it counts members. The row has `own` points itself.
+    // The number of bytes of the count of a row above the rows of `self`, and of the ids if it
+    // counts members; 0 for a point. The row has `own` points itself.
     #[inline(always)]
     fn lead_len(&self, kind: Kind, own: u32) -> u64
         requires room { self.now.ids ≤ sums_cap }
@@ -136,8 +136,9 @@ impl RowTotals {
         merged(tail.bounds, self.bounds)
     }
 
-    // The bounds of the box, in a style, of a geometry above the rows of `self`; `None` if it has
-    // no box: in plain style always, in full style if `full_box` gives none.
+    // The bounds of the box, in a style, of a geometry above the rows of `self`; `tail` totals its
+    // points, without those of collection members. `None` if it has no box: in plain style always,
+    // in full style if `full_box` gives none.
     #[inline(always)]
     fn box_for(&self, style: Style, kind: Kind, precision: i8, tail: &TailTotals) -> Option<Bounds>
         ensures { result ≡ box_for style kind precision self.now tail.now }
@@ -148,8 +149,9 @@ impl RowTotals {
         }
     }
 
-    // The bounds of the box, in full style, of a geometry above the rows of `self`; `None` if it
-    // has no box: it is a point, has no point, or has a geometry of another precision inside.
+    // The bounds of the box, in full style, of a geometry above the rows of `self`; `tail` totals
+    // its points, without those of collection members. `None` if it has no box: it is a point, has
+    // no point, or has a geometry of another precision inside.
     #[inline(always)]
     fn full_box(&self, kind: Kind, precision: i8, tail: &TailTotals) -> Option<Bounds>
         ensures { result ≡ box_for Full kind precision self.now tail.now }
@@ -216,8 +218,8 @@ impl RowTotals {
     }
 
     // The totals of the rows of `self` with a geometry before them: its box and body have `size`
-    // bytes, at most 2^50, `below` totals the rows under it, and `tail` its points, without those
-    // of collection members. `self` must have at most 2^30 members.
+    // bytes, which must be at most 2^50, `below` totals the rows under it, and `tail` its points,
+    // without those of collection members. `self` must have at most 2^30 members.
     #[inline(always)]
     pub(crate) fn with_geometry(
         self,

@@ -1,8 +1,8 @@
-use Rattle.std.proofs.Common.{◌∙◌, Some, ap, sym}
+use Rattle.std.proofs.Common.{◌∙◌, Some, ap}
 use Rattle.twkb_io.specs.Taps.{device_of}
 use Rattle.twkb_buffer.specs.Calls.{Finished, Stopped}
 use Rattle.twkb_buffer.specs.Slices.{buffer_of, held}
-use Rattle.twkb_buffer.proofs.RunLemmas.{fills, moved_back, sent_is, ran}
+use Rattle.twkb_buffer.proofs.RunLemmas.{fills, moved_back, ran}
 use Rattle.twkb_buffer.proofs.filled_slice.run_into.Goals as goal
 
 pub returns : goal.returns
@@ -15,11 +15,9 @@ returns c =
     (device_of c.convert-answer.new.writer) c.into_inner.result wrote.bytes
     (c.new-writer.ensures.device ∙ c.replace.ensures.value) c.into_inner.ensures c.requires
     wrote.appends in
-    let ended = Finished c.args.what c.args.limits c.args.input.now in
-    let halted = Stopped c.args.what c.args.limits c.args.input.now in
     record {
-      filled = front.count ∙ sym (sent_is ended halted c.convert-answer.result wrote.bytes wrote.agrees);
       same_borrow = front.same_borrow;
-      fills = fills ended halted c.convert-answer.result wrote.bytes
+      fills = fills (Finished c.args.what c.args.limits c.args.input.now)
+          (Stopped c.args.what c.args.limits c.args.input.now) c.convert-answer.result wrote.bytes
           (buffer_of c.into_inner.result).now wrote.agrees front.within front.front;
     }

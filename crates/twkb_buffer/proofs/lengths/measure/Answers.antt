@@ -1,16 +1,19 @@
+use Rattle.std.proofs.Common.{Some, ap}
 use Rattle.twkb_buffer.specs.Calls.{Finished, HasLength, Stopped}
-use Rattle.twkb_buffer.proofs.RunLemmas.{whole_length, measured}
+use Rattle.twkb_buffer.proofs.RunLemmas.{whole_length, measured, ran}
 use Rattle.twkb_buffer.proofs.lengths.measure.Goals as goal
 
 pub returns : goal.returns
 returns c =
-    let counts = c.count_output.ensures in
+    let wrote = ran c.args.limits c.args.input.now _ _ c.new-reader.result c.new-writer.result
+    c.convert.new.reader c.convert.new.writer (ap (λ s. Some s.now) c.new-reader.ensures.device)
+    c.args.what c.convert.result c.convert.ensures in
     measured
     (Finished c.args.what c.args.limits c.args.input.now)
     (Stopped c.args.what c.args.limits c.args.input.now)
     (HasLength c.args.what c.args.limits c.args.input.now)
-    c.count_output.result
+    c.convert.result
     c.measured.result
-    counts
+    (wrote.bytes, wrote.agrees)
     c.measured.ensures
-    (λ n told. whole_length c.args.what c.args.limits c.args.input.now counts.0 c.count_output.result n counts.1 told)
+    (λ n told. whole_length c.args.what c.args.limits c.args.input.now wrote.bytes c.convert.result n wrote.agrees told)

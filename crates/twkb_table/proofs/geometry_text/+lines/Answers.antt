@@ -2,8 +2,8 @@ use Rattle.std.proofs.Common.{◌∙◌, ◌∷◌, [], ◌+◌, ap, arith, rule
 use Rattle.twkb_tree.specs.Tree.{nest_all, trees}
 use Rattle.twkb_tree.specs.Rows.{plain_row, ring_rows, polygon_rows, rows_of_each, member_rows}
 use Rattle.twkb_tree.specs.declared.kind.Kind.{Kind}
-use Rattle.twkb_tree.specs.Size.{member_smaller}
 use Rattle.twkb_table.specs.Text.{row_lines, Writes}
+use Rattle.twkb_tree.specs.Size.{member_smaller}
 use Rattle.twkb_tree.proofs.TreeLemmas.{member_rows_each, nest_member, under_shape}
 use Rattle.twkb_table.proofs.LineLemmas.{geometry_written, has_written_all, has_written_more, has_written_none}
 use Rattle.twkb_table.proofs.geometry_text.+lines.Goals as goal
@@ -28,7 +28,7 @@ write_members-write_geometry-requires t c = (
 
 pub write_members-loop-member-preserved : goal.write_members-loop-member-preserved
 write_members-loop-member-preserved t c = has_written_more
-    c.loop-member.invariant c.loop-member-test.true c.member-item.is c.id_at-id.ensures
+    c.loop-member.invariant c.loop-member-test.true c.member-item.is c.id_at.ensures
     c.in_ok-write_geometry.ensures
 
 pub write_members-returns : goal.write_members-returns

@@ -9,10 +9,10 @@ loop-line-init c = has_written_none c.requires.ready
 
 pub loop-line-preserved : goal.loop-line-preserved
 loop-line-preserved c =
-    has_written_more c.loop-line.invariant c.loop-line-test.true c.line-item.is c.id_at-id.ensures
+    has_written_more c.loop-line.invariant c.loop-line-test.true c.line-item.is c.id_at.ensures
     (subst (λ ps. Writes c.loop-line.records.writer c.write_part.new.records.writer
-    (row_lines (plain_row c.args.depth c.args.kind c.id_at-id.result ps ∷ [])))
-    c.as_slice-points.ensures.items c.in_ok-write_part.ensures)
+    (row_lines (plain_row c.args.depth c.args.kind c.id_at.result ps ∷ [])))
+    c.as_slice.ensures.items c.in_ok-write_part.ensures)
 
 pub returns : goal.returns
 returns c = has_written_all c.loop-line.invariant c.loop-line-test.false

@@ -14,7 +14,7 @@ loop-point-preserved c =
     c.point-item.is c.id_at-id.ensures
     (subst (λ ps. Writes c.loop-point.records.writer c.write_part.new.records.writer
     (row_lines (plain_row c.args.depth Kind.Point c.id_at-id.result ps ∷ [])))
-    c.from_ref-points.ensures.value c.in_ok-write_part.ensures)
+    c.from_ref.ensures.value c.in_ok-write_part.ensures)
 
 pub returns : goal.returns
 returns c = has_written_all c.loop-point.invariant c.loop-point-test.false

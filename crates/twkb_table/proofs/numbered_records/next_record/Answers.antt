@@ -1,15 +1,18 @@
 use Rattle.std.proofs.Common.{arith, refl, inl, inr}
+use Rattle.std.proofs.lemmas.Result.{err_from_is_err_and}
 use Rattle.csv.specs.Records.{fields_of}
 use Rattle.twkb_table.proofs.numbered_records.next_record.Goals as goal
 
 pub overflow_add-number : goal.overflow_add-number
 overflow_add-number g c = omega (arith, c.from.ensures, c.if-from-ge-RECORD_CAP.false)
 
-pub returns-in-Ok-false : goal.returns-in-Ok-false
-returns-in-Ok-false g c = (rw c.in-Ok-false.field-0-test at c.in-Ok-false.ensures, refl)
+pub returns-then-not-branch : goal.returns-then-not-branch
+returns-then-not-branch g c = (rw c.if-not-branch.true at c.in_ok-read_next.ensures, refl)
 
-pub returns-in-Err : goal.returns-in-Err
-returns-in-Err g c = inl c.in-Err.ensures
+pub returns-in_err-read_next : goal.returns-in_err-read_next
+returns-in_err-read_next g c =
+    let p = err_from_is_err_and c.from_residual.result c.from_residual.ensures.1 in
+    rw (p.1, p.2) (inl c.in_err-read_next.ensures)
 
 pub returns-then-from-ge-RECORD_CAP : goal.returns-then-from-ge-RECORD_CAP
 returns-then-from-ge-RECORD_CAP g c = inr (
@@ -18,13 +21,13 @@ returns-then-from-ge-RECORD_CAP g c = inr (
   (
     fields_of c.read_next.new.last,
     c.read_next.new.reader,
-    rw c.in-Ok-true.field-0-test at c.in-Ok-true.ensures,
+    rw c.if-not-branch.false at c.in_ok-read_next.ensures,
   ),
 )
 
 pub returns : goal.returns
 returns g c = (
-  rw c.in-Ok-true.field-0-test at c.in-Ok-true.ensures,
+  rw c.if-not-branch.false at c.in_ok-read_next.ensures,
   refl,
   omega (arith, c.from.ensures, c.if-from-ge-RECORD_CAP.false),
 )

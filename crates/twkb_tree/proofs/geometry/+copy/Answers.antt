@@ -1,5 +1,5 @@
-use Rattle.twkb_tree.specs.Size.{member_smaller}
 use Rattle.std.proofs.Common.{◌∙◌, arith}
+use Rattle.twkb_tree.specs.Size.{member_smaller}
 use Rattle.twkb_tree.proofs.TreeLemmas.{copied_more, copied_all}
 use Rattle.twkb_tree.proofs.geometry.+copy.Goals as goal
 
@@ -25,21 +25,6 @@ Members::copy-loop-member-preserved t c = (
 pub Members::copy-returns : goal.Members::copy-returns
 Members::copy-returns t c =
     copied_all _ _ _ c.loop-member.invariant.0 c.loop-member-test.false ∙ c.as_slice-members.ensures.items
-
-pub Shape::copy-returns-in-Line : goal.Shape::copy-returns-in-Line
-Shape::copy-returns-in-Line t c = rw c.in-Line.is c.copy_line.ensures
-
-pub Shape::copy-returns-in-Polygon : goal.Shape::copy-returns-in-Polygon
-Shape::copy-returns-in-Polygon t c = rw c.in-Polygon.is c.copy_polygon.ensures
-
-pub Shape::copy-returns-in-MultiPoint : goal.Shape::copy-returns-in-MultiPoint
-Shape::copy-returns-in-MultiPoint t c = rw c.in-MultiPoint.is c.copy_points.ensures
-
-pub Shape::copy-returns-in-MultiLine : goal.Shape::copy-returns-in-MultiLine
-Shape::copy-returns-in-MultiLine t c = rw c.in-MultiLine.is c.copy_lines.ensures
-
-pub Shape::copy-returns-in-MultiPolygon : goal.Shape::copy-returns-in-MultiPolygon
-Shape::copy-returns-in-MultiPolygon t c = rw c.in-MultiPolygon.is c.copy_areas.ensures
 
 pub Members::copy-copy-requires : goal.Members::copy-copy-requires
 Members::copy-copy-requires t c = grind (arith, member_smaller)

@@ -1,6 +1,6 @@
-use Rattle.twkb_tree.specs.Size.{member_smaller}
 use Rattle.std.proofs.lemmas.Grind.{common_steps}
 use Rattle.std.proofs.Common.{rules, arith}
+use Rattle.twkb_tree.specs.Size.{member_smaller}
 use Rattle.twkb_tree.proofs.TreeLemmas.{levels_step}
 use Rattle.twkb_tree.proofs.geometry.+nest.Goals as goal
 

@@ -1,5 +1,5 @@
 use Rattle.std.specs.Prelude.{None}
-use Rattle.twkb_tree.specs.RowLemmas.{length-rows_with}
+use Rattle.twkb_tree.proofs.TreeLemmas.{length-rows_with}
 use Rattle.twkb_tree.proofs.RowLaws.{row_points-with}
 use Rattle.twkb_tree.proofs.laws.nodes_are_rows.Goals as goal
 

@@ -14,18 +14,18 @@ returns-in-Err-At-clause-refused g c = text_refused c.args.self.now c.in-Err-At.
     c.in-Err-At.reason
     c.in-Err-At.field-0 (λ h. false≢true (c.if-has_needless_text.ensures.1 h))
     c.in-Err-At.field-0-is
-    (rw c.points_left-left.ensures at c.in-Err-At.ensures.refuses)
+    (rw (c.saturating_sub-left.ensures, c.points.ensures) at c.in-Err-At.ensures.refuses)
 
 pub returns-in-Some-refused_count-clause-refused : goal.returns-in-Some-refused_count-clause-refused
 returns-in-Some-refused_count-clause-refused g c = points_refused c.args.self.now
     c.count-start.result
     c.count.result _ _ c.in-Some-refused_count.reason (λ h. false≢true
     (c.if-has_needless_text.ensures.1 h))
-    (rw c.points_left-left.ensures at c.in-Ok-decode_into.ensures.decodes)
+    (rw (c.saturating_sub-left.ensures, c.points.ensures) at c.in-Ok-decode_into.ensures.decodes)
     c.count-start.ensures c.count.ensures c.in-Some-refused_count.ensures.judged
 
 pub returns-clause-given : goal.returns-clause-given
 returns-clause-given g c = points_accepted c.args.self.now c.count-start.result c.count.result _ _
     (λ h. false≢true (c.if-has_needless_text.ensures.1 h))
-    (rw c.points_left-left.ensures at c.in-Ok-decode_into.ensures.decodes)
+    (rw (c.saturating_sub-left.ensures, c.points.ensures) at c.in-Ok-decode_into.ensures.decodes)
     c.count-start.ensures c.count.ensures c.in_default-refused_count.ensures.judged

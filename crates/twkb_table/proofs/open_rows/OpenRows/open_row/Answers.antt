@@ -5,7 +5,7 @@ use Rattle.twkb_flat.specs.Rows.{row_with}
 use Rattle.smallvec.proofs.SmallVecLemmas.{items-with_items}
 use Rattle.twkb_table.proofs.RowReaderLemmas.{opened_in}
 use Rattle.twkb_table.proofs.open_rows.OpenRows.open_row.Goals as goal
-use Rattle.twkb_table.proofs.open_rows.OpenRows.open_row.Goals.{then-depth-len+in-Ok, else-depth-len}
+use Rattle.twkb_table.proofs.open_rows.OpenRows.open_row.Goals.{then-depth-len+in_ok-write_apart, else-depth-len}
 
 pub returns-clause-opened : goal.returns-clause-opened
 returns-clause-opened c = λ points.
@@ -15,9 +15,9 @@ returns-clause-opened c = λ points.
     let open_now : opened d items r ≡ opened d c.args.self.now r = opened_in d c.self.inside.open_count
     items c.args.self.now r c.self.invariant (sym c.self.view_is) c.requires in
     elim c.if-depth-len.branch [
-      | then-depth-len+in-Ok w ↦
+      | then-depth-len+in_ok-write_apart w ↦
           ap (λ s. take (d + 1) s.places.items) w.self-inside-is
-          ∙ (w.in-Ok.ensures.opened r refl (sym c.is_some-has_id.ensures) ∙ open_now)
+          ∙ (w.in_ok-write_apart.ensures.opened r refl (sym c.is_some-has_id.ensures) ∙ open_now)
       | else-depth-len w ↦
           ap (λ s. take (d + 1) s.places.items) w.self-inside-is
           ∙ (ap (take (d + 1)) (items-with_items c.self.inside.places w.write.new.places

@@ -1,4 +1,5 @@
 use Rattle.std.proofs.Common.{◌<◌, [], ◌∷◌, refl, sym, ap, arith}
+use Rattle.std.proofs.lemmas.Result.{err_from_is_err_and}
 use Rattle.std.specs.Prelude.{reverse}
 use Rattle.csv.specs.Records.{fields_of}
 use Rattle.twkb_tree.specs.Rows.{Row}
@@ -13,7 +14,7 @@ use Rattle.twkb_table.proofs.row_reader.RowReader.read_row.Goals as goal
 
 pub invariant_of-self-then-row-eq0-clause-waits : goal.invariant_of-self-then-row-eq0-clause-waits
 invariant_of-self-then-row-eq0-clause-waits c =
-    let own = c.in_default.ensures.given in
+    let own = c.in_ok-append_to.ensures.given in
     let points = c.append_to.new.points.items in
     let next = comes_next c.args.self.now.limits c.args.flat.now (fields_of c.args.csv_record.now)
     c.in-Ok.head
@@ -28,7 +29,7 @@ invariant_of-self-then-row-eq0-clause-waits c =
 pub returns-then-row-eq0-clause-row : goal.returns-then-row-eq0-clause-row
 returns-then-row-eq0-clause-row c =
     let l = c.args.self.now.limits in
-    let own = c.in_default.ensures.given in
+    let own = c.in_ok-append_to.ensures.given in
     let points = c.append_to.new.points.items in
     let next = comes_next l c.args.flat.now (fields_of c.args.csv_record.now) c.in-Ok.head
     c.row-row.result c.clear.new.self.items points own.0 c.requires.0.of_one c.in-Ok.ensures
@@ -61,7 +62,7 @@ push_from-requires c own given =
 pub open_row-requires : goal.open_row-requires
 open_row-requires c =
     let l = c.args.self.now.limits in
-    let own = c.in_default-push_from.ensures.pushed in
+    let own = c.in_ok-push_from.ensures.pushed in
     let next = comes_next l c.args.flat.now (fields_of c.args.csv_record.now) c.in-Ok.head
     c.row-row.result []
     own.0 own.0 c.requires.0.of_one c.in-Ok.ensures c.row-row.ensures refl refl own.2 in
@@ -72,7 +73,7 @@ open_row-requires c =
 pub returns-clause-row : goal.returns-clause-row
 returns-clause-row c =
     let l = c.args.self.now.limits in
-    let own = c.in_default-push_from.ensures.pushed in
+    let own = c.in_ok-push_from.ensures.pushed in
     let next = comes_next l c.args.flat.now (fields_of c.args.csv_record.now) c.in-Ok.head
     c.row-row.result []
     own.0 own.0 c.requires.0.of_one c.in-Ok.ensures c.row-row.ensures refl refl own.2 in
@@ -96,19 +97,24 @@ returns-clause-row c =
 pub returns-in-Err-clause-row : goal.returns-in-Err-clause-row
 returns-in-Err-clause-row c = (c.in-Err.ensures, c.requires.1)
 
-pub returns-in-Err-append_to-clause-row : goal.returns-in-Err-append_to-clause-row
-returns-in-Err-append_to-clause-row c = (
-  if_refused _ _ c.in-Err-append_to.fault (λ reason j. c.in-Ok.ensures (Refused reason) j)
-      c.in-Err-append_to.ensures.refused,
-  c.requires.1,
-)
+pub returns-in_err-append_to-clause-row : goal.returns-in_err-append_to-clause-row
+returns-in_err-append_to-clause-row c =
+    let p = err_from_is_err_and c.from_residual.result c.from_residual.ensures.1 in
+    rw (p.1, p.2) (
+      if_refused _ _ _ (λ reason j. c.in-Ok.ensures (Refused reason) j)
+          c.in_err-append_to.ensures.refused,
+      c.requires.1,
+    )
 
-pub returns-in-Err-push_from-clause-row : goal.returns-in-Err-push_from-clause-row
-returns-in-Err-push_from-clause-row c = (
-  if_refused _ _ c.in-Err-push_from.fault (λ reason j. c.in-Ok.ensures (Refused reason) j)
-      c.in-Err-push_from.ensures.refused,
-  c.requires.1,
-)
+pub returns-in_err-push_from-clause-row : goal.returns-in_err-push_from-clause-row
+returns-in_err-push_from-clause-row c =
+    let p = err_from_is_err_and c.from_residual-in_err-push_from.result
+    c.from_residual-in_err-push_from.ensures.1 in
+    rw (p.1, p.2) (
+      if_refused _ _ _ (λ reason j. c.in-Ok.ensures (Refused reason) j)
+          c.in_err-push_from.ensures.refused,
+      c.requires.1,
+    )
 
-pub returns-in_default-open_row-clause-row : goal.returns-in_default-open_row-clause-row
-returns-in_default-open_row-clause-row c = (tt, c.requires.1)
+pub returns-in_default-clause-row : goal.returns-in_default-clause-row
+returns-in_default-clause-row c = (tt, c.requires.1)

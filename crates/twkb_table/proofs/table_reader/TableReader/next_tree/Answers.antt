@@ -6,4 +6,4 @@ pub returns-clause-gives : goal.returns-clause-gives
 returns-clause-gives g c l told records given s = tree_given l g.R.Read.remaining told records given
     (progress c.next_flat.new.self) _ c.in-Ok.geometry c.in-Ok.ensures.rows
     c.in-Ok.ensures.valid.tree
-    (c.in-Ok-true.ensures.gives c.in-Ok-true.field-0-test l told records given s)
+    (c.in_ok-next_flat.ensures.gives c.if-not-branch.false l told records given s)

@@ -1,7 +1,7 @@
 use Rattle.std.proofs.Common.{◌≡◌, true, false, rules}
 use Rattle.twkb_blob.specs.StreamReaders.{reader_in, rows_in}
 use Rattle.twkb_convert.proofs.ListingLemmas.{ended, lines_given}
-use Rattle.twkb_convert.proofs.blob_text.HeaderLinesBlobText.read_next.Goals as goal
+use Rattle.twkb_convert.proofs.blob_text.SpansBlobText.read_next.Goals as goal
 
 pub returns-then-not-branch : goal.returns-then-not-branch
 returns-then-not-branch g c =
