@@ -163,8 +163,10 @@ pub extern "C" fn polytwkb_round(numbers: &[u64], precision: i32, units: &mut [i
     round_numbers(numbers, precision, units)
 }
 
-/// Writes the text of the reason with this number, and after it a zero byte, as `put_reason` does,
-/// and returns the length of the whole text. Takes no memory.
+/// Copies the text of the reason with this number, cut if there is too little room, and after it a
+/// zero byte, to the start of a buffer; an empty buffer stays as it is. Returns the length of the
+/// whole text without the zero byte, at most 31. A number that no reason has gives the empty text.
+/// Takes no memory.
 #[unsafe(no_mangle)]
 pub extern "C" fn polytwkb_reason_text(reason: u32, text: &mut [u8]) -> usize
     ensures { PutsText (AreWordsOf reason) text.old text.new result }
@@ -172,8 +174,9 @@ pub extern "C" fn polytwkb_reason_text(reason: u32, text: &mut [u8]) -> usize
     put_reason(reason, text)
 }
 
-/// Writes the version of the library, and after it a zero byte, as `put_version` does, and returns
-/// the length of the whole text. Takes no memory.
+/// Copies the version of the library, cut if there is too little room, and after it a zero byte, to
+/// the start of a buffer; an empty buffer stays as it is. Returns the length of the whole text
+/// without the zero byte, at most 31. Takes no memory.
 #[unsafe(no_mangle)]
 pub extern "C" fn polytwkb_version(text: &mut [u8]) -> usize
     ensures { PutsText (λ words. words ≡ version_text) text.old text.new result }
