@@ -144,7 +144,7 @@ fn points_are_read_in_blocks_up_to_the_inner_points_border(rt: HostRuntime) {
 
 // The first point of Google's worked example, after a byte.
 #[test]
-fn one_point_is_encoded_behind_a_byte(rt: HostRuntime) {
+fn one_point_is_encoded_after_a_byte(rt: HostRuntime) {
     let mut piece = Piece::<128>::new();
     piece.push(b',');
     if let Some(point) = Pt::try_new(-12020000, 3850000) {

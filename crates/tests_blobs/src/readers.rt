@@ -288,7 +288,7 @@ fn grows_no_more(alloc: Global, blob: &[u8], rows: u32) -> bool {
 
 // Whether a session that was fed the bytes one by one takes the blob in one piece without asking
 // for memory.
-fn grows_no_more_behind_bytes(alloc: Global, blob: &[u8], rows: u32) -> bool {
+fn grows_no_more_after_bytes(alloc: Global, blob: &[u8], rows: u32) -> bool {
     let mut session = Session::new(alloc, Limits::standard());
     for byte in blob {
         if let Err(fault) = session.feed_flat(&[*byte]) {
@@ -318,5 +318,5 @@ fn lends_bytewise(session: &mut Session, bytes: &[u8], rows: u32) -> bool {
 fn a_session_makes_each_growth_once(rt: HostRuntime) {
     assert!(rt; grows_no_more(rt.alloc(), NAMED, 7) & grows_no_more(rt.alloc(), DEEP, 7));
     assert!(rt; grows_no_more(rt.alloc(), ALL_NAMED, 7) & grows_no_more(rt.alloc(), NEAR, 1));
-    assert!(rt; grows_no_more_behind_bytes(rt.alloc(), NEAR, 1));
+    assert!(rt; grows_no_more_after_bytes(rt.alloc(), NEAR, 1));
 }

@@ -28,7 +28,7 @@ fn ends_for_good<R: Read>(ending: &mut Ending<R>) -> bool {
 }
 
 #[test]
-fn behind_its_end_a_reader_is_asked_no_more(rt: HostRuntime) {
+fn after_its_end_a_reader_is_asked_no_more(rt: HostRuntime) {
     let mut ending = Ending::new(Tap::new(b"ab".as_slice()));
     let has_ended = ends_for_good(&mut ending);
     let tap = ending.into_inner();

@@ -66,7 +66,7 @@ fn writes_are_told(alloc: Global, worked: &Worked) -> bool {
 }
 
 #[test]
-fn each_write_that_fails_or_takes_nothing_is_told_behind_the_bytes_before_it(rt: HostRuntime) {
+fn each_write_that_fails_or_takes_nothing_is_told_after_the_bytes_before_it(rt: HostRuntime) {
     for worked in &WORKED {
         let are_told = writes_are_told(rt.alloc(), worked);
         assert!(rt; are_told, "{}", worked.name);
@@ -106,7 +106,7 @@ fn reads_are_told(alloc: Global, worked: &Worked) -> bool {
 }
 
 #[test]
-fn each_read_that_fails_is_told_behind_the_whole_blobs(rt: HostRuntime) {
+fn each_read_that_fails_is_told_after_the_whole_blobs(rt: HostRuntime) {
     for worked in &WORKED {
         let are_told = reads_are_told(rt.alloc(), worked);
         assert!(rt; are_told, "{}", worked.name);
@@ -174,7 +174,7 @@ fn growths_are_told(alloc: Global, worked: &Worked) -> bool {
 }
 
 #[test]
-fn a_refused_growth_is_want_of_memory_behind_a_front_of_the_output(rt: HostRuntime) {
+fn a_refused_growth_is_want_of_memory_after_a_front_of_the_output(rt: HostRuntime) {
     for worked in &WORKED {
         let are_told = growths_are_told(rt.alloc(), worked);
         assert!(rt; are_told, "{}", worked.name);
@@ -300,7 +300,7 @@ fn an_end_that_is_remembered_is_asked_for_once(rt: HostRuntime) {
 }
 
 #[test]
-fn a_read_that_fails_behind_the_end_is_a_failed_read(rt: HostRuntime) {
+fn a_read_that_fails_after_the_end_is_a_failed_read(rt: HostRuntime) {
     let mut reader = Tap::new(FailsBehindItsEnd {
         text: TABLE,
         has_ended: false,

@@ -113,7 +113,8 @@ impl Session {
     }
 
     // Builds the geometry of the rows, which must be one at least; the session must not be spent.
-    // Takes memory; if it is refused, returns `Memory`, and the session is spent and has no rows.
+    // On `Ok` the session is as before. Takes memory; if it is refused, returns `Memory`, and the
+    // session is spent and has no rows.
     // It is not written in `feed`, although it is inlined there, since each call of `feed` would
     // then first clear its local variables.
     #[inline(always)]

@@ -18,7 +18,7 @@ pub enum BlobReason {
     BadVarint,
     /// A collection inside as many collections as may be has members.
     TooDeep,
-    /// The counts so far announce more rows than a geometry may have.
+    /// With the root, the counts so far announce more rows than a geometry may have.
     TooManyNodes,
     /// The counts and points so far announce more points than a geometry may have.
     TooManyPoints,

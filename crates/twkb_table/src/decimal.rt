@@ -100,7 +100,7 @@ fn negative_of(field: &[u8]) -> Option<i64>
 }
 
 // The number that the first eight bytes of a field spell as decimal digits, and 8, or `None` if one
-// of them is no digit; of a shorter field, the number of the first byte, and 1. The field must
+// of them is no digit; of a shorter field, the value of its first digit, and 1. The field must
 // begin with a digit from 1 to 9.
 #[inline(always)]
 fn first_digits(field: &[u8]) -> Option<(u64, usize)>

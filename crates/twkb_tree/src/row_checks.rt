@@ -35,7 +35,7 @@ pub enum Refusal {
     BadPrecision,
     /// A root or a member of a collection has no precision.
     PrecisionMissing,
-    /// A component of a geometry has a precision.
+    /// A row that is neither a root nor a member of a collection has a precision.
     PrecisionNotAllowed,
     /// A row of a kind without points has points.
     PointsNotAllowed,

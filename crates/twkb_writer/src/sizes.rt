@@ -44,7 +44,8 @@ impl Sizes {
         }
     }
 
-    /// The number of entries, one for each TWKB geometry that was measured. Takes no memory.
+    /// The number of entries: one for each TWKB geometry of the form that was measured last, and 0
+    /// if none was. It means nothing if that call returned an `Err`. Takes no memory.
     pub fn len(&self) -> usize
         ensures { result ≡ length self.now }
     {

@@ -190,7 +190,8 @@ impl RowTotals {
     }
 
     // The totals of the rows of `self` with a component of a geometry before them: its own row has
-    // `own` points, and `below` totals the rows under it. `self` must have at most 2^30 members.
+    // `own` points, and `below` totals the rows under it. `self` must have at most 2^30 members, and
+    // `ids` and `bytes` of `self` and of `below` must each be at most 2^40.
     #[inline(always)]
     pub(crate) fn with_component(
         self,
@@ -219,7 +220,8 @@ impl RowTotals {
 
     // The totals of the rows of `self` with a geometry before them: its box and body have `size`
     // bytes, which must be at most 2^50, `below` totals the rows under it, and `tail` its points,
-    // without those of collection members. `self` must have at most 2^30 members.
+    // without those of collection members. `self` must have at most 2^30 members, and its `ids` and
+    // `bytes` must each be at most 2^40.
     #[inline(always)]
     pub(crate) fn with_geometry(
         self,

@@ -237,7 +237,7 @@ fn ends(alloc: Global, run: &Run) -> bool {
 }
 
 #[test]
-fn a_device_that_fails_ends_with_3_behind_what_was_whole_and_standard_error_changes_nothing(
+fn a_device_that_fails_ends_with_3_after_what_was_whole_and_standard_error_changes_nothing(
     rt: HostRuntime,
 ) {
     for run in &RUNS {
