@@ -5,8 +5,10 @@
 #   beside_plain.sh [--megabytes 40] [--points 10000000] [--rounds 9] [--cases CASE ..] [--docs] [--busy]
 #           seven tables: user and system time, best of the rounds, both programs in turn; peak memory; the time over that for half as
 #           much; and the sizes of table and stream. Both write the same bytes, which is checked by hash. --docs puts tables, picture
-#           and lines of text into the pages. About 10 minutes. If the median time of a program is over a tenth above its best, in
-#           three tries, the machine is busy: no ratios are given, no page is written, and the status is 1, unless --busy is given.
+#           and lines of text into the pages. About 10 minutes. Each run waits for a processor that no neighbour slows, up to 10 seconds
+#           or as many as PATIENCE in the environment says. If the median time of a program is over a tenth above its best all the
+#           same, in three tries, the machine is busy: no ratios are given, no page is written, and the status is 1, unless --busy is
+#           given.
 #   beside_plain.sh instructions [CASE ..]
 #           instructions a row and a point by `valgrind --tool=callgrind` on small tables, and the functions that hold most
 #

@@ -12,7 +12,7 @@ import sys
 import zlib
 
 from picture import picture
-from quiet import BUSY, is_quiet
+from quiet import BUSY, Processors, when_quiet
 
 CASES = {
     "points": "single points",
@@ -27,9 +27,6 @@ WORDS = ("pack", "unpack", "show")
 PROGRAMS = ("polytwkb", "plain")
 MEGABYTE = 1_000_000
 PIECE = 1 << 20
-
-# A command is timed so many times over until the machine was quiet meanwhile.
-TRIES = 3
 
 
 def parse_words():
@@ -87,6 +84,7 @@ class Table:
         self.table = f"{options.folder}/{case}.{size}.csv"
         self.stream = f"{options.folder}/{case}.{size}.twkb"
         self.programs = {"polytwkb": options.polytwkb, "plain": options.plain}
+        self.processors = options.processors
         subprocess.run([options.maker, case, str(size), self.table], check=True)
         # How long the table is that each command reads, writes or would write.
         self.length = {"pack": os.path.getsize(self.table)}
@@ -106,7 +104,7 @@ class Table:
 
     def seconds(self, word):
         """One run of each program."""
-        return {name: seconds_of(self.programs[name], word, self.source(word)) for name in PROGRAMS}
+        return {name: self.processors.run(lambda: seconds_of(self.programs[name], word, self.source(word))) for name in PROGRAMS}
 
     def peak(self, word):
         return {name: peak_of(self.programs[name], word, self.source(word)) for name in PROGRAMS}
@@ -133,13 +131,14 @@ class Table:
 def best(tables, word, rounds):
     """The best seconds of each program on each of the tables, and whether the machine was quiet. All run in turn, since the speed of a
     machine changes."""
-    for _ in range(TRIES):
+
+    def measure():
         runs = [[table.seconds(word) for table in tables] for _ in range(rounds)]
-        sides = [{name: [run[place][name] for run in runs] for name in PROGRAMS} for place in range(len(tables))]
-        quiet = is_quiet(*(seconds for side in sides for seconds in side.values()))
-        if quiet:
-            break
-    return [{name: min(seconds) for name, seconds in side.items()} for side in sides], quiet
+        return [[run[place][name] for run in runs] for place in range(len(tables)) for name in PROGRAMS]
+
+    sides, quiet = when_quiet(measure)
+    least = iter(map(min, sides))
+    return [{name: next(least) for name in PROGRAMS} for _ in tables], quiet
 
 
 WKB_HEADERS = {"point": 5, "ring": 4}
@@ -298,6 +297,7 @@ def main():
         sys.exit("/usr/bin/time, which reports the peak of memory, is not there")
     read_by = subprocess.run([options.plain, "records"], stdout=subprocess.PIPE, check=True, text=True).stdout.strip()
     line = circumstances(options, read_by)
+    options.processors = Processors()
     print(f"{line}\n\n{HEAD}", flush=True)
     measured = [measure(options, case) for case in options.cases]
     rows, sizes = [row for own, _ in measured for row in own], [own for _, own in measured]
