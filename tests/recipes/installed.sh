@@ -17,8 +17,13 @@ cd "$folder/elsewhere"
 rm -rf $recipes/__pycache__
 chmod 644 $recipes/*
 
+# A call that found no program is made again: the test of the Debian package, beside this one, installs and removes /usr/bin/polytwkb.
+called() {
+    "$@" > out.txt 2>&1 || { grep -q '/usr/bin/polytwkb: No such file' out.txt && "$@" > out.txt 2>&1; }
+}
+
 runs() {
-    if ! "$@" > out.txt 2>&1 || grep 'needs polytwkb' out.txt; then
+    if ! called "$@" || grep 'needs polytwkb' out.txt; then
         tail -n 5 out.txt
         echo "not with an installed program: $*"
         exit 1
