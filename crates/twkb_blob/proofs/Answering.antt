@@ -42,8 +42,6 @@ use Rattle.twkb_blob.specs.Sessions.{Stands, PartAt, FedSession, FedFlat, AreBeg
 use Rattle.twkb_blob.specs.Sessions.{session_limits, session_rows}
 use Rattle.twkb_blob.specs.declared.session.Session.{Session}
 
--- ==== The answers of a reader, of what was read into a form, and what every call says.
-
 -- ==== The rows of a geometry, and the tree that is made of them.
 
 -- the law that rows tell one tree

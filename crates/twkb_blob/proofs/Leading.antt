@@ -61,8 +61,6 @@ pub changed_to : {A : Type 0} (xs : List A) (i : ℕ) (f : A → A) (x y : A) �
     → set xs i y ≡ changed_at i f xs
 changed_to xs i f x y is at low = ap (set xs i) (is ∙ ap f at) ∙ changed_set xs i f x low
 
--- ==== The turns of a call that reads a blob of an input, piece by piece.
-
 -- ==== Engines that some bytes lead to, after a piece and before one.
 
 module _ {S : Type 0} {holds : S → Notes → Type 0} {rs more : List Row} {d e : Engine} {old new : S}

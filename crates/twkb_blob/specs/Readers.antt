@@ -70,7 +70,8 @@ pub record IsAtBlob {R : Type 0} {read : Ghosts R} (limits : Allowance) (input :
   pub start : d.start ≡ given input
   pub same_limits : allowance_of d ≡ limits
 
--- An engine keeps pace with a reader: unless that answered an error or the end, it is where the next blob begins.
+-- An engine keeps pace with a reader: unless that answered an error or the end, it is where the next
+-- blob begins, and has the reader's limits.
 abbrev pub IsAbreast : {R : Type 0} {read : Ghosts R} → Reader R read → Engine → Type 0
 IsAbreast r d = IfGoingOn r (IsAtBlob (reader_limits r) (reader_input r) d)
 

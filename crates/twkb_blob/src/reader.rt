@@ -28,6 +28,7 @@ pub struct Reader<'a, R: Read> {
 }
 
 impl<'a, R: Read> Reader<'a, R> {
+    ghost use Rattle.twkb_io.specs.Inputs.{given};
     ghost use Rattle.twkb_blob.specs.Readers.{reader_input, reader_limits, is_spent, has_ended, IsNext};
     ghost use Rattle.twkb_blob.specs.Readers.{IsAbreast, IsTreeOf, PartAhead, ReadsNext, ReadsRows, stopped_at};
     ghost use Rattle.twkb_blob.specs.Located.{IsLocated, ReadsWith};
@@ -46,6 +47,13 @@ impl<'a, R: Read> Reader<'a, R> {
             limits,
             state: State::Ready,
         }
+    }
+
+    // The number of bytes that left the input, at most 2^62. Takes no memory.
+    pub(crate) fn offset(&self) -> u64
+        ensures { result ≡ given (reader_input self.now) }
+    {
+        self.input.offset()
     }
 
     /// Reads the next geometry, whose blob alone leaves the input, or returns `None` at the input's

@@ -172,7 +172,7 @@ impl SpanNotes for OpenSpans {
         }
     }
 
-    // Adds a complete span, which is not open; an `Err` changes nothing.
+    // Adds a complete span, which is not open. Takes memory.
     #[inline(always)]
     fn put(&mut self, span: Span) -> Result<(), AllocError> {
         self.spans.reserve(1)?;

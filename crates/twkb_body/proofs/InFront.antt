@@ -35,8 +35,6 @@ small_step (pos k) h =
 small_step (negsuc k) h =
     let low : k < COORDINATE_BOUND = omega (arith, h) in (omega (arith, ints, low), omega (arith, ints))
 
--- ==== Numbers and points at the start of bytes: cut, too long, or complete.
-
 -- ==== Coordinates in the code.
 
 -- a coordinate passes

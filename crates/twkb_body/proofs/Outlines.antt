@@ -57,8 +57,6 @@ module _ (t : Stage) (offset points : ℕ) where
   silent [] w h = refl
   silent (byte ∷ bytes) w h = h byte
 
--- ==== The outline after an item, and the change that the item makes to the rows.
-
 -- ==== The outline after an item is determined by the outline before it.
 
 -- after one more value there is one id less

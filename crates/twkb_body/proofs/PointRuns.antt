@@ -43,9 +43,6 @@ use Rattle.std.proofs.Props.{props}
 use Rattle.twkb_tree.specs.declared.kind.Kind.{Kind}
 use Rattle.twkb_grammar.specs.Reading.{objection, Gives}
 
--- ==== Points and ids that are complete at the start of bytes lead on, and so do the bytes up to
--- one for which there is no memory.
-
 -- ==== The bytes were judged if the ends after an item are passed, or if none comes; and a part that ends in the rest
 -- of a piece ends in the piece.
 

@@ -35,7 +35,7 @@ const POINTS: u64 = POINTS_AT_ONCE as u64;
 /// from the one before, the first from `from`. The last row must be a linestring's or a ring's, and
 /// all rows together must have at most 2^24 points with `most` more. Stops before a point that is
 /// cut, too long or out of range. Returns what was taken, and how many of `most` are left. Takes
-/// memory; after an `Err` the points appended so far stay.
+/// memory; after an `Err` nothing is known of the rows.
 // One function: with the choice of the next step in a function of its own, it took up to 6 in 1000
 // more instructions.
 #[inline(always)]
@@ -113,11 +113,13 @@ fn take_eights(
     Ok((Taken { used, position }, left))
 }
 
-/// Appends members of a multipoint as rows at `depth`, as `take_row` appends points, each with the
-/// next id of `ids`, which then leaves `ids`, if members have ids. The last row must be such a
+/// Appends the points at the start of the bytes, at most `most`, as members of a multipoint: rows
+/// at `depth`, each point by its steps from the one before, the first from `from`, and each with
+/// the next id of `ids`, which then leaves `ids`, if members have ids. The last row must be such a
 /// member at `depth`, with an id exactly if they have ids, and with `most` more there must be at
-/// most 2^20 rows and 2^24 points. Stops also before a point without an id left. Takes memory;
-/// after an `Err` the rows appended so far stay.
+/// most 2^20 rows and 2^24 points. Stops before a point that is cut, too long or out of range, or
+/// has no id left. Returns what was taken, and how many of `most` are left. Takes memory; after an
+/// `Err` nothing is known of the rows.
 pub fn take_members(
     flat: &mut Flat,
     ids: &mut MemberIds,

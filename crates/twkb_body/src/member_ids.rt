@@ -46,6 +46,7 @@ impl MemberIds {
     /// `Err` changes nothing.
     pub fn push(&mut self, id: i64) -> Result<(), AllocError>
         ensures pushed { OnOk result (ids_read self.new ≡ ids_read self.old ++ id ∷ []) }
+        ensures same { OnErr result (ids_read self.new ≡ ids_read self.old) }
         ensures has { self.new.has_ids ≡ self.old.has_ids }
     {
         self.ids.push(id)?;

@@ -50,8 +50,9 @@ pub(crate) fn short_number(bytes: &[u8]) -> Option<(u64, usize)>
     None
 }
 
-// Reads a varint of any length at the start of the bytes, byte by byte. It is called when
-// `short_number` does not suffice for it or for the other number of its point, which is rare.
+// Reads the varint at the start of the bytes, of up to ten bytes, or says why none is complete
+// there. Takes no memory. It is called if `short_number` does not suffice for this number or for the
+// other one of its point, which is rare.
 #[cold]
 #[inline(never)]
 pub(crate) fn long_number(bytes: &[u8]) -> FrontNumber

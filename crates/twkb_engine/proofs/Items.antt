@@ -156,8 +156,6 @@ innermost_id items m now n d same le is some =
     ∙ (ap (λ (g : OpenCollection). first_id (ids_of g.ids)) (sym (get_or-take n items (n - 1) d (omega (arith, some))))
     ∙ (sym (last_id [] (take n items) (n - 1) d at) ∙ ap (λ (gs : List OpenCollection). id_in (frames_of gs)) (sym is)))
 
--- ==== An item that comes next, in a body or at its end: where it leads, and what it brings.
-
 -- ==== What holds of an engine that some bytes lead to.
 
 -- the rows take what the next item brings

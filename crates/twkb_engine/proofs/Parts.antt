@@ -58,8 +58,6 @@ use Rattle.twkb_engine.specs.declared.blob_reason.BlobReason.{BlobReason}
 use Rattle.twkb_engine.specs.declared.blob_reason.BlobReason.TheVariants as blob
 use Rattle.twkb_engine.specs.Texts.{blob_words}
 
--- ==== The parts of a header, and the members and ends of geometries.
-
 -- ==== The parts of a header, and what comes after it.
 
 -- ---- what an item of a header says

@@ -46,9 +46,6 @@ use Rattle.twkb_grammar.specs.Machine as machine
 use Rattle.twkb_grammar.specs.Fault.{Reason}
 use Rattle.twkb_engine.specs.declared.open_collections.OpenCollection.{OpenCollection}
 
--- ==== Points, members and ids that are complete at the start of the bytes, many at once or one by
--- one.
-
 -- ==== Points of a list, members and ids that are taken many at once.
 
 -- none are taken: the engine stays where it is

@@ -116,8 +116,6 @@ moved_fields {m = m} same moves = λ i. record {
 abbrev pub SameItem : Engine → Engine → Type 0
 SameItem d e = fields_of e ≡ record (fields_of d) { held = held_in e }
 
--- ==== The step of an engine at its next item, and a blob that is a single point.
-
 -- ==== An item that comes next: its role, what it notes, and the stage after it and the ends that follow.
 
 -- an item that begins and ends nothing notes nothing

@@ -116,8 +116,8 @@ pub record TakesMany {E : Type 0} (rs : List Row) (d : Engine) (bytes : List ℕ
   pub memory : OnErr answer (StopsIn rs d bytes)
   pub stays : Stays d e
 
--- it is so many bytes further in the same body, perhaps at another point and with fewer points of
--- its open list to come
+-- it is so many bytes further in the same body; its position and the number of points left in its
+-- open list may be any
 pub record MovesOn (d : Engine) (used : ℕ) (e : Engine) : Type 0 where
   pub bytes : e.bytes ≡ d.bytes + used
   pub nodes : e.nodes ≡ d.nodes

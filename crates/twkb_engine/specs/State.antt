@@ -60,15 +60,15 @@ stage_at next.RingCount d = body_at d (Wanted 2 (area_lists_of d.head.kind d.mem
 abbrev pub stage_of : Engine → Stage
 stage_of d = stage_at d.next d
 
--- what is open
+-- what is open in an engine
 abbrev pub outline_in : Engine → Outline
 outline_in d = (frames_of d.collections, stage_of d)
 
--- what its items so far sum to
+-- what the items of an engine so far sum to
 abbrev pub sums_of : Engine → Sums
 sums_of d = record { bytes = d.bytes; position = d.position; nodes = d.nodes; points = d.points }
 
--- its limits
+-- the limits of an engine
 abbrev pub allowance_of : Engine → Allowance
 allowance_of d = d.limits
 

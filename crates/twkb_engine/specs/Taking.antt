@@ -170,7 +170,7 @@ point_row p d = point_change p d.head.depth d.head.id d.head.precision (form_of 
 
 -- ==== What an engine has noted of spans.
 
--- the geometries that are begun and not finished
+-- the number of geometries that are begun and not finished
 abbrev pub open_in : Engine → ℕ
 open_in d = open_count (outline_in d)
 

@@ -79,9 +79,9 @@ impl Engine {
     }
 
     // Ends a geometry that has no body, or no members, as `end_geometry` does, and then pushes its
-    // row, which the form must admit. Returns whether the blob ends with it. Refused if the size of
-    // a geometry that ends here is not exact. `next` must be an item of a header after the type
-    // byte, or the count of members. The row takes memory.
+    // row, which the form must admit. `next` must be an item of a header after the type byte, or
+    // the count of members. Returns whether the blob ends with it. Refused if the size of a geometry
+    // that ends here is not exact. The row takes memory.
     #[tactic(auto, using(crate::proofs::Parts::headings))]
     pub(crate) fn end_empty<S: SpanNotes>(
         &mut self,

@@ -224,8 +224,10 @@ impl Engine {
     }
 
     // Goes past the place of the extended dimensions byte: to the size, if `metadata`, which must
-    // be that of `head`, announces one, or else as `after_size` does. Returns whether the blob ends
-    // here. `next`, `flat`, an `Err` and memory are as with `end_empty`.
+    // be that of `head`, announces one, or else as `after_size` does. `next` must be an item of a
+    // header after the type byte, and the form must admit the row of a geometry without a body.
+    // Returns whether the blob ends here. Refused if the size of a geometry that ends here is not
+    // exact. The row of a geometry without a body takes memory.
     #[inline(always)]
     fn after_extended<S: SpanNotes>(
         &mut self,
@@ -248,8 +250,10 @@ impl Engine {
     }
 
     // Goes past the place of the size: to the box, if `metadata`, which must be that of `head`,
-    // announces one, or else past the header as `begin_body` does. Returns whether the blob ends
-    // here. `next`, `flat`, an `Err` and memory are as with `end_empty`.
+    // announces one, or else past the header as `begin_body` does. `next` must be an item of a
+    // header after the type byte, and the form must admit the row of a geometry without a body.
+    // Returns whether the blob ends here. Refused if the size of a geometry that ends here is not
+    // exact. The row of a geometry without a body takes memory.
     #[inline(always)]
     fn after_size<S: SpanNotes>(
         &mut self,
@@ -272,8 +276,9 @@ impl Engine {
     }
 
     // Goes past the header: to the body, or to the count of members. A geometry without a body
-    // ends, as `end_empty` does it. Returns whether the blob ends here. `next`, `flat`, an `Err`
-    // and memory are as with `end_empty`.
+    // ends, as `end_empty` does it; the form must admit its row. `next` must be an item of a header
+    // after the type byte. Returns whether the blob ends here. Refused if the size of a geometry
+    // that ends here is not exact. The row of a geometry without a body takes memory.
     #[inline(always)]
     fn begin_body<S: SpanNotes>(&mut self, flat: &mut Flat, spans: &mut S) -> Result<bool, Stop>
         requires header { IsHeaderItem self.old.next }

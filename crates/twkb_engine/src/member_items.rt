@@ -27,7 +27,7 @@ use twkb_grammar::Metadata;
 use twkb_num::unzigzag;
 use twkb_tree::Kind;
 
-// Appends the id that this number spells in zigzag form. Takes memory; an `Err` changes nothing.
+// Appends the id that this number spells in zigzag form. Takes memory.
 #[inline(always)]
 fn push_id(ids: &mut MemberIds, number: u64) -> Result<(), AllocError>
     ensures pushed { OnOk result

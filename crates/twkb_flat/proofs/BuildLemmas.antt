@@ -29,8 +29,6 @@ use Rattle.twkb_flat.specs.Rows.{row_with, row_depth_cap}
 use Rattle.twkb_tree.specs.Admits.{Continues}
 use Rattle.twkb_tree.proofs.LimitLaws.{valid_list, continues_row, one_valid_front}
 
--- ==== Items taken from rows one after the other, and the geometry that is built from them.
-
 -- ==== Items taken from rows, one after another.
 
 -- dropping one more row

@@ -29,8 +29,6 @@ use Rattle.twkb_tree.proofs.LimitLaws.{continued, of_one, one_geometry_rows}
 use Rattle.twkb_tree.proofs.RowLaws.{length-row_points}
 use Rattle.twkb_tree.proofs.RowForest.{both_true}
 
--- ==== The row at a place and the open rows of a form, by its kept nodes.
-
 -- ==== The row at a place, by its kept node.
 
 -- the rows from a place on, by the kept node there

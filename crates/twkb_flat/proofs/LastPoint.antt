@@ -30,15 +30,13 @@ use Rattle.twkb_flat.specs.KeptNodes.{depths_in, links_in, longer, last_longer, 
 use Rattle.std.proofs.lemmas.Bool.{cases_lt}
 use Rattle.std.specs.Vec.{with_items}
 use Rattle.twkb_tree.specs.declared.limits.TheConstants.{NODES_CAP, POINTS_CAP}
-use Rattle.twkb_tree.specs.Tree.{Tree, flat, saturated}
+use Rattle.twkb_tree.specs.Tree.{Tree, flat}
 use Rattle.twkb_tree.proofs.TreeLemmas.{length-rows_with}
 use Rattle.twkb_tree.proofs.PointMore.{line_more, point_last}
 use Rattle.twkb_flat.specs.declared.node.Row.{Row as NodeRow}
 use Rattle.twkb_flat.specs.declared.node.Node.{Node}
 use Rattle.twkb_flat.specs.declared.kept_nodes.PlacedRow.{PlacedRow}
 use Rattle.twkb_flat.proofs.LinkLemmas.{flat_points, laid_within}
-
--- ==== The open place of a row, and its test by the open rows.
 
 -- ==== An open place among the rows, and what the test of a row sees of the row there.
 
@@ -314,8 +312,6 @@ neither b most es ps rows view (forth, back) f = (
   (λ h. sym f ∙ back (ends_rows es ps h.0.front h.0.last (view ∙ h.0.whole) h.0.line)),
 )
 
--- ==== What is true of the rows of a flat form, also after points were added to the last one.
-
 -- ==== What is true of the rows of a flat form, and what determines its nodes.
 
 -- ---- caps
@@ -396,12 +392,6 @@ same_node rs i m n a b =
     let first : m.first.0 ≡ n.first.0 = sym a.first ∙ b.first in
     let next = one_next (depths rs) i m.next.0 n.next.0 a.next b.next in
     rw (row, next, first, points) refl
-
--- ---- counters
-
--- a counter that has stopped stays where it is
-pub reads_join : (n more : ℕ) → saturated (saturated n + more) ≡ saturated (n + more)
-reads_join n more = omega arith
 
 -- ==== Points appended to the last row, and counted in the last kept node.
 

@@ -14,8 +14,6 @@ use Rattle.twkb_points.specs.Point.{Point}
 use Rattle.twkb_tree.specs.Rows.{Row as TableRow, row_points}
 use Rattle.twkb_flat.specs.declared.kept_nodes.PlacedRow.{PlacedRow}
 
--- ==== The links of kept nodes, and the walk along the open ones, from the last one up.
-
 -- ==== The links stay right when a row is appended.
 
 -- the last row gives the number of open rows

@@ -173,7 +173,7 @@ pub(crate) fn take_each<T: Component>(
     Ok((Elements::from_vec(components), found_ids(ids), at))
 }
 
-// Appends an id to the ids, or nothing if it is `None`. Takes memory; an `Err` changes nothing.
+// Appends an id to the ids, or nothing if it is `None`. Takes memory.
 fn push_id(ids: &mut Vec<i64>, id: Option<i64>) -> Result<(), AllocError>
     ensures { OnOk result (ids.new.items ≡ ids.old.items ++ id_list id) }
 {

@@ -1,14 +1,12 @@
 //! Laws of the flat form, each stated as the contract of an empty function.
-ghost use Rattle.std.specs.Prelude.{◌≡◌, ℕ, ◌+◌, ◌<◌, ◌≤◌, ◌^◌, ◌++◌, ◌∷◌, List, length};
+ghost use Rattle.std.specs.Prelude.{◌≡◌, ℕ, ◌≤◌, ◌++◌, ◌∷◌, List, length};
 ghost use Rattle.twkb_tree.specs.declared.limits.TheConstants.{NODES_CAP, POINTS_CAP};
 ghost use Rattle.twkb_tree.specs.Limits.{largest_limits, IsValid};
-ghost use Rattle.twkb_tree.specs.Tree.{Tree, saturated};
+ghost use Rattle.twkb_tree.specs.Tree.{Tree};
 ghost use Rattle.twkb_tree.specs.Rows.{Row as TableRow, rows, row_points, AreValidRowsOfOne};
 ghost use Rattle.twkb_tree.specs.Admits.{Continues};
 ghost use Rattle.twkb_flat.specs.declared.node.Node.{Node};
 ghost use Rattle.twkb_flat.specs.Rows.{IsNode};
-
-use crate::work::Work;
 
 /// The rows of a flat form are at most 2^20, and their points at most 2^24, so that the places of
 /// both fit `u32`.
@@ -28,16 +26,4 @@ pub fn every_geometry()
 /// The rows of a flat form and a place determine the node at that place.
 pub fn one_node()
     ensures { (rs : List TableRow) (i : ℕ) (m n : Node) → IsNode rs i m → IsNode rs i n → m ≡ n }
-{}
-
-/// A count that stops at 2^64 - 1 is the same after two additions as after one of their sum.
-pub fn reads_add_up()
-    ensures { (n more : ℕ) → saturated (saturated n + more) ≡ saturated (n + more) }
-{}
-
-/// Both counts of reads are below 2^64, so that a count to which nothing is added stays as it is.
-#[inline(always)]
-pub fn reads_fit(work: Work)
-    ensures nodes { work.node_reads < 2 ^ 64 }
-    ensures points { work.point_reads < 2 ^ 64 }
 {}

@@ -24,4 +24,4 @@ pub use node::{Node, NodeId, PointId, Row};
 pub use point_source::PointSource;
 pub use rows::Rows;
 pub use stop::Stop;
-pub use work::Work;
+pub use work::{Work, reads_fit};

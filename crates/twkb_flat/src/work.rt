@@ -1,5 +1,5 @@
 //! Counters of work.
-ghost use Rattle.std.specs.Prelude.{◌≡◌, ◌+◌, ◌≤◌};
+ghost use Rattle.std.specs.Prelude.{◌≡◌, ◌+◌, ◌<◌, ◌≤◌, ◌^◌};
 ghost use Rattle.twkb_tree.specs.Tree.{saturated};
 
 /// Counts of what was measured, and of the points and nodes that were read; each stops at 2^64 - 1.
@@ -59,3 +59,11 @@ impl Work {
         self.point_reads = self.point_reads.saturating_add(points);
     }
 }
+
+/// A lemma, which does nothing: both counts of reads are below 2^64, so that one to which nothing is
+/// added stays as it is.
+#[inline(always)]
+pub fn reads_fit(work: Work)
+    ensures nodes { work.node_reads < 2 ^ 64 }
+    ensures points { work.point_reads < 2 ^ 64 }
+{}

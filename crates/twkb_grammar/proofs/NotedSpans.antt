@@ -34,8 +34,6 @@ use Rattle.twkb_grammar.proofs.BodiesBack.{sums_after-append}
 use Rattle.std.proofs.lemmas.List.{map-append}
 use Rattle.twkb_grammar.proofs.Parts.{one_blob_items}
 
--- ==== The notes of a geometry's items, and of its end, are its spans.
-
 -- ==== Ends of geometries, and what a reader notes of them.
 
 -- all items are ends

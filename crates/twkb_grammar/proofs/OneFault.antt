@@ -21,8 +21,6 @@ use Rattle.twkb_grammar.specs.Bits.{AreBytes}
 use Rattle.twkb_grammar.specs.Samples.{standard, nest_eight, no_nest, two_nodes, one_point_only, no_points}
 use Rattle.twkb_grammar.proofs.Stepping.{both}
 
--- ==== Bytes have at most one first fault, and items at their start go on from one another.
-
 -- ==== Of two lists of items that the machine runs through at the start of the same bytes, one begins with the other.
 
 -- the items are those before, one more, and perhaps others
@@ -373,9 +371,6 @@ byte_no_end _ is = absurd is
 pub number_no_end : (r : Role) → IsNumber r → NoEnd r
 number_no_end (End k m) is = absurd is
 number_no_end _ is = λ d c e. cc
-
--- ==== The plain reader makes the geometry at the start of the bytes, or refuses the first fault,
--- also when it is computed.
 
 -- ==== The plain reader makes the geometry whose blob is at the start of the bytes, or refuses the first fault.
 

@@ -30,8 +30,6 @@ use Rattle.twkb_num.proofs.VarintLemmas.{one_varint}
 use Rattle.twkb_grammar.specs.Items.{Blob, Items}
 pub use Rattle.twkb_grammar.proofs.Bodies.{runs_same}
 
--- ==== Open geometries: the frames of a stack, their number, and a measure that each item lowers.
-
 -- ==== The limit on collections around a member bounds the number of open collections.
 
 -- at most as many collections are open as allowed
@@ -261,8 +259,6 @@ lowers p level at total n bytes fs ph r says s =
     )
     go (AtEnd h g) e = omega arith
     go (Finished g) e = absurd cc
-
--- ==== Prefixes of items, each of which can be completed.
 
 -- ==== Every state that the machine reaches can be completed: with zeros, 0x10 for a metadata byte, and 01 10 for a
 -- geometry.

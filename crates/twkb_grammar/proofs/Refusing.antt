@@ -33,8 +33,6 @@ use Rattle.twkb_grammar.proofs.TreesBack.{kept_at}
 use Rattle.twkb_grammar.proofs.Parts.{run_on, next_role, run_is_front, filler, filler_number}
 use Rattle.twkb_grammar.proofs.Stepping.{Allowed, no_reason}
 
--- ==== The items of a geometry keep the limits on depth and range exactly if the geometry does.
-
 -- ==== Joined items, and items of roles of which nothing is asked.
 
 -- if joined items are kept, so are the prefix and the rest
@@ -255,8 +253,6 @@ mutual
             subst (λ l. Kept most e l) (sym are.whole) (Kept-append most are.front are.rest e
             (one.1 (omega (arith, all.0), two.0)) (more.1 (omega (arith, all.0), two.1)))),
       )
-
--- ==== A refusal of the machine is a fault, and without one a part can go on to a valid geometry.
 
 -- ==== A refusal of the machine is a fault, and a first fault if the items before it are a part.
 

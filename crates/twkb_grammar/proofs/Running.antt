@@ -32,8 +32,6 @@ use Rattle.twkb_grammar.proofs.WrittenBlobs.{AreExact-append, join-append}
 use Rattle.twkb_grammar.proofs.BodiesBack.{sums_after-append}
 use Rattle.twkb_grammar.specs.Bits.{AreBytes}
 
--- ==== Items that the machine ran through within the limits, and the state of a reader after them.
-
 -- ==== Objections to items, and the limits that an item without an objection keeps.
 
 -- a collection with members inside too many collections is refused

@@ -151,8 +151,6 @@ no_reason limits before rest (End d c) reason n bs other s e a x = when_not reas
     (λ (h : IsExact (End d c) → ⊥). h x) (λ z. z)
 no_reason limits before rest _ reason n bs other s e a x = varint_not bs other n rest reason s e (λ z. z)
 
--- ==== One step of the plain reader: it takes the next item, or refuses it for the first reason.
-
 -- ==== The varint that the plain reader cuts from bytes.
 
 -- one more than the greatest number that k + 1 bytes can spell

@@ -16,8 +16,6 @@ use Rattle.twkb_io.specs.declared.output.Output.{Output}
 use Rattle.twkb_io.specs.declared.output.OutFault.{OutFault}
 use Rattle.twkb_io.specs.declared.output.OutFault.TheVariants as fault
 
--- ==== The bytes that a reader gives, those of them that are held, and its faults.
-
 -- ==== An answer is either `Ok` or one error.
 
 -- a call that passed was not refused

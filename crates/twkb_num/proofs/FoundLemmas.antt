@@ -27,8 +27,6 @@ use Rattle.std.specs.List.{concat}
 use Rattle.twkb_num.specs.declared.alphabet.Alphabet.{Alphabet}
 use Rattle.twkb_num.specs.declared.block.Marks.{Marks}
 
--- ==== The marks of units as the bits of a number, and the tables that such numbers lead to.
-
 -- ==== The tables of places and of lengths: each word is compared with its definition by computing.
 
 -- the first two set marks end numbers of at most four units
@@ -268,8 +266,6 @@ ends_reach base radix most n ends bytes bound room long within before us marks a
                 ∙ told
           ]
     ]
-
--- ==== Numbers found among units by the marks of their last units: one, two and four at once.
 
 -- ==== The number that units stand for, and that they are its shortest spelling.
 

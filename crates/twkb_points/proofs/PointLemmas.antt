@@ -24,8 +24,6 @@ use Rattle.twkb_num.specs.declared.four.Four.{Four}
 use Rattle.twkb_points.specs.Steps.{TwoInFront, IsStepTo, AreStepsTo, character_step, last_of, differences_from}
 use Rattle.twkb_points.specs.Steps.{differences, points_from, points_of, AreDifferences}
 
--- ==== The join of extents, and what extents and boxes say of the points.
-
 -- ==== The join of extents, and the extent of joined lists.
 
 int_min_assoc : (x y z : ℤ) → int_min (int_min x y) z ≡ int_min x (int_min y z)
@@ -274,8 +272,6 @@ near_sum k m n same inside near =
       to_z-of_z w64 (m +ℤ n)
           (near_fits m n inside near),
     ))
-
--- ==== Points one after the other: their steps and differences.
 
 -- ==== Short steps from an inner point stay near it and in range.
 

@@ -28,8 +28,6 @@ use Rattle.twkb_polyline.proofs.FaultLemmas.{after_latitude, behind_none, leaves
 use Rattle.twkb_polyline.proofs.FaultLemmas.{text_fault_none}
 use Rattle.twkb_polyline.specs.declared.fault.PolyReason.TheVariants as text
 
--- ==== The text of points, written in parts, and the characters of numbers in the bytes of a word.
-
 -- ==== The text of points, written in parts, one after the other.
 
 -- Of the points after `start`, those in `left` are still to be written: the text of the others
@@ -269,8 +267,6 @@ spread_lane n small =
     rw (and_mask n 5, and_mask (n / 32) 5, and_mask (n / 1024) 5)
     (placed (n % 32) (n / 32 % 32) (n / 1024 % 32) (n / 32768) (omega arith) (omega arith) (omega arith) (omega arith)
     ∙ omega arith)
-
--- ==== The points of a text are read one after the other, or several at once.
 
 -- ==== A point in a text: its two numbers, or its fault.
 
@@ -529,6 +525,43 @@ short_on (o ∷ qs) last r has (end, point, inside, rest) some fits = record {
   in_range = inside;
 }
 
+-- ---- points that are counted
+
+-- Points were read from the start of a text, the last of them this one, and this is their number.
+pub record IsCounted (text : List ℕ) (max : ℕ) (last : Point) (at count : ℕ) : Type 0 where
+  pub held : List Point
+  pub read : HasPutOn text 0 max origin [] held last at
+  pub counted : count ≡ length held
+
+-- no point was counted
+pub counted_none : {text : List ℕ} {max : ℕ} → IsCounted text max origin 0 0
+counted_none = record { held = []; read = put_none; counted = refl }
+
+-- more points are counted
+pub counted_on : {text : List ℕ} {max at end count after : ℕ} {q r : Point} (qs : List Point)
+    → IsCounted text max q at count → ArePointsAt text at q qs r end → count + length qs ≤ max
+    → after ≡ count + length qs → IsCounted text max r end after
+counted_on qs has points fits more = record {
+  held = has.held ++ qs;
+  read = put_on qs has.read points (omega (arith, has.counted, put_count has.read)) refl;
+  counted = omega (arith, has.counted, length-append has.held qs);
+}
+
+-- one more point is counted
+pub counted_one : {text : List ℕ} {max at end count after : ℕ} {q r : Point}
+    → IsCounted text max q at count → IsPointAt text at q r end → IsInRange r → count < max
+    → after ≡ count + 1 → IsCounted text max r end after
+counted_one has point inside fits more = counted_on (_ ∷ []) has (one_at point inside) (omega arith) more
+
+-- the number of points that were put into an empty list
+pub put_alone : {text : List ℕ} {start room at : ℕ} {p q : Point} {old held : List Point}
+    (has : HasPutOn text start room p old held q at) → old ≡ [] → length has.ps ≡ length held
+put_alone has none = omega (arith, put_count has, ap (λ (ps : List Point). length ps) none)
+
+-- the points counted are no more than the most
+pub few_counted : {text : List ℕ} {max at count : ℕ} {q : Point} → IsCounted text max q at count → count ≤ max
+few_counted has = omega (arith, has.counted, put_count has.read, has.read.few)
+
 -- ---- the points read from the start of a text
 
 module _ {text : List ℕ} {max at : ℕ} {cursor : Point} {old held : List Point}
@@ -609,6 +642,13 @@ module _ {text : List ℕ} {max at : ℕ} {cursor : Point} {old held : List Poin
         );
         few = all.few;
       }
+
+-- at the end of the text all its points are counted
+pub all_counted : {text : List ℕ} {max at count : ℕ} {q : Point} → IsCounted text max q at count
+    → length text ≤ at → (ps : List Point) × DecodesTo text max ps × (length ps ≡ count)
+all_counted has done =
+    let all = has_read_all has.read done in
+    (all.ps, all.decoded, omega (arith, has.counted, ap (λ (ps : List Point). length ps) all.appended))
 
 -- ==== Texts that are the polyline of one point, and texts that are not.
 

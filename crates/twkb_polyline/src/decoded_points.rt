@@ -9,6 +9,7 @@ ghost use Rattle.twkb_polyline.specs.Reading.{HasPutOn, IsNumberAt, IsPointAt, I
 use crate::fault::{PolyFault, PolyReason};
 use crate::whole::{only_point, whole_point};
 use std::alloc::{AllocError, Global};
+use std::cmp::min;
 use twkb_num::{BLOCK, Five, Partial, Step, character_ends, unzigzag};
 use twkb_points::{
     APART, Cursor, FAR_APART, NUMBERS_AT_ONCE, POINTS_AT_ONCE, PointTail, Pt, eight_points,
@@ -79,6 +80,49 @@ fn one_by_one(text: &[u8]) -> Option<Pt>
         return None;
     }
     Some(point)
+}
+
+/// The number of points of a polyline of at most `max` points. Refuses any other text at its first
+/// fault, as `decode` does. `room` is for up to 1024 points at a time, which replace those in it;
+/// after the call nothing is known of them. Takes memory for these alone.
+#[cold]
+#[inline(never)]
+pub fn count_points(text: &[u8], max: u32, room: &mut Vec<Pt>) -> Result<usize, PolyFault>
+    ensures counts { IfOk result (λ count. (points : List Point) × DecodesTo text.now max points
+        × (length points ≡ count)) }
+    ensures refuses { IfErr result (IsRefused text.now max) }
+{
+    let mut cursor = Cursor::origin();
+    let mut at = 0;
+    let mut count = 0;
+    let mut next_look = FIRST_LOOK;
+    while at < text.len() {
+        if at >= next_look && text.len() - at >= BLOCK {
+            room.clear();
+            let most = at_once(max as usize - count);
+            let end = read_eights(text, at, most, &mut cursor, room)?;
+            count += room.len();
+            next_look = end + apart(end > at);
+            at = end;
+            continue;
+        }
+        one_more(count, max, at)?;
+        let (_, end) = next_point(text, at, &mut cursor)?;
+        count += 1;
+        at = end;
+    }
+    Ok(count)
+}
+
+// The most points that `count_points` decodes at once.
+const COUNTED_AT_ONCE: usize = 1024;
+
+// At most `COUNTED_AT_ONCE` of the points that may be left.
+#[inline(always)]
+fn at_once(left: usize) -> usize
+    ensures { result ≤ left }
+{
+    min(left, COUNTED_AT_ONCE)
 }
 
 // Decodes a text as `decode_into` does, but after an `Err` the points read before it stay in the

@@ -9,6 +9,6 @@ mod piece;
 mod spelled_numbers;
 mod whole;
 
-pub use decoded_points::{decode, decode_into, decode_one};
+pub use decoded_points::{count_points, decode, decode_into, decode_one};
 pub use encoded_text::{encode, encode_into, encode_point};
 pub use fault::{PolyFault, PolyReason};

@@ -38,8 +38,6 @@ use Rattle.twkb_table.proofs.Verdicts.{row_judged, both, both_true}
 use Rattle.twkb_polyline.proofs.TextLemmas.{short_point_text}
 use Rattle.twkb_table.specs.declared.reason.RowReason.TheVariants as row
 
--- ==== Records name geometries or have one fault.
-
 -- ==== A fault excludes geometries, and records have at most one fault.
 
 snoc_some : (xs : List Record) (y : Record) → xs ++ y ∷ [] ≡ [] → ⊥

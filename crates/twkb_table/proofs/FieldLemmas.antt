@@ -176,8 +176,6 @@ eight_read field long fit below low high =
     eight_spelled field ds long are digit (omega arith)
     (ap decimal (sym first) ∙ digit_first field (omega arith) low high)
 
--- ==== The fields of a row determine it, and it can be decided what a field spells.
-
 -- ==== The fields of a row determine it.
 
 -- ---- words

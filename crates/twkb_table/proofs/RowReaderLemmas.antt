@@ -64,7 +64,7 @@ use Rattle.twkb_table.specs.RowReading.{JudgedAfter, Kept}
 use Rattle.twkb_table.specs.declared.reason.RowReason.{RowReason}
 use Rattle.twkb_table.specs.declared.reason.RowReason.TheVariants.{BadKind, BadPlace, Polyline}
 use Rattle.twkb_table.specs.declared.row_reader.Root.{Root}
-use Rattle.twkb_table.specs.Head.{head_row, HasNeedlessText, JudgedAs, JudgedBy}
+use Rattle.twkb_table.specs.Head.{head_row, HasNeedlessText, IsAccepted, JudgedAs, JudgedBy}
 use Rattle.twkb_table.specs.declared.head.RowHead.{RowHead}
 
 -- ==== What a read of `csv` says about the place in a text.
@@ -264,8 +264,6 @@ opened_in d n items now r few is le =
     let size = length-take-le n items few in
     sym (opened_front d n items r (omega (arith, le, ap length is, size)) few)
     ∙ ap (λ (xs : List OpenRow). opened d xs r) (sym is)
-
--- ==== The next row of a record, judged by the open rows of the geometry that is being read.
 
 -- ==== The verdict on a record by the open rows is the verdict by the rows so far.
 
@@ -694,6 +692,13 @@ points_accepted head start count old new needed a before after allows =
     let many = grown_by head.text.now (most_points head) start count old new a before after in
     (a.ps, a.appended, inr (needed, inr (a.ps, a.decoded, allows a.ps many head.id head.precision)))
 
+-- as many points were counted as the place allows
+pub count_accepted : (head : RowHead) (count : ℕ) → (HasNeedlessText head → ⊥)
+    → ((ps : List Point) × DecodesTo head.text.now (most_points head) ps × (length ps ≡ count))
+    → AllowsMany head count → IsAccepted head
+count_accepted head count needed (ps, decoded, many) allows =
+    (ps, inr (needed, inr (ps, decoded, allows ps many head.id head.precision)))
+
 -- the place of the row refuses this many points for this reason
 abbrev pub RefusesMany : RowHead → ℕ → RowReason → Type 0
 RefusesMany head count reason =
@@ -706,3 +711,10 @@ pub points_refused : (head : RowHead) (start count : ℕ) (old new : List Point)
 points_refused head start count old new reason needed a before after refuses =
     let many = grown_by head.text.now (most_points head) start count old new a before after in
     inr (needed, inr (a.ps, a.decoded, refuses a.ps many head.id head.precision))
+
+-- the place refuses as many points as were counted
+pub count_refused : (head : RowHead) (count : ℕ) (reason : RowReason) → (HasNeedlessText head → ⊥)
+    → ((ps : List Point) × DecodesTo head.text.now (most_points head) ps × (length ps ≡ count))
+    → RefusesMany head count reason → JudgedAs head (Refused reason)
+count_refused head count reason needed (ps, decoded, many) refuses =
+    inr (needed, inr (ps, decoded, refuses ps many head.id head.precision))

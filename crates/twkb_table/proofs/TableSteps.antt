@@ -21,26 +21,26 @@ use Rattle.twkb_table.specs.RowFault.{Named, all_but_last, AreComplete}
 use Rattle.twkb_table.specs.Judged.{Verdict, Judged, Accepted, Refused}
 use Rattle.twkb_table.specs.CsvRecords.{BeginWith, standing, MissesRecord, ReadsRecord, fault_of, AreRecordsOf}
 use Rattle.twkb_table.specs.CsvRecords.{HasGiven}
-use Rattle.twkb_table.specs.Waiting.{waiting_rows, is_over, is_stopped, point_row}
+use Rattle.twkb_table.specs.Waiting.{AreWaiting, is_over, is_stopped, is_waiting, point_row}
 use Rattle.twkb_table.specs.RowReading.{limits_of, JudgedAfter, GoesOn, EndsBefore, Refuses, ReadsRow, waiting}
+use Rattle.twkb_table.specs.RowReading.{Awaits}
 use Rattle.twkb_table.specs.TableReading.{NameSoFar, Extends, Explains, HaveGiven, Progress, NameReading, IsReading}
 use Rattle.twkb_table.specs.TableReading.{Reaches, Completes, records_read, GivesRows, FaultsIn, IsMarked}
 use Rattle.twkb_table.specs.TableReading.{ReadsNextRow, StandsAt, GivesTree, ReachesEnd, IsRefusedAt, Begins}
-use Rattle.twkb_table.specs.TableReading.{FindsRoot, ReadsNextRoot, progress}
+use Rattle.twkb_table.specs.TableReading.{FindsRoot, ReadsNextRoot, progress, Wherever, Faults}
 use Rattle.twkb_table.specs.declared.table_fault.TableFault.{TableFault}
 use Rattle.twkb_table.specs.declared.table_fault.TableFault.TheVariants as fault
 use Rattle.twkb_table.specs.declared.row_reader.RowReader.{RowReader}
 use Rattle.twkb_table.specs.declared.row_reader.State.{State}
 use Rattle.twkb_table.specs.declared.row_reader.State.TheVariants as state
 use Rattle.twkb_table.specs.declared.reason.RowReason.{RowReason}
+use Rattle.twkb_table.proofs.RootLemmas.{some_waits, waits_alone}
 use Rattle.twkb_table.proofs.RowReaderLemmas.{row_place_begins}
 use Rattle.twkb_table.proofs.FaultLaws.{row_more, root_more, refused_more}
 use Rattle.std.proofs.lemmas.Bool.{true≢false}
 use Rattle.twkb_tree.proofs.RowLaws.{one_geometry}
 use Rattle.twkb_table.specs.declared.table_reader.TableReader.{TableReader}
 use Rattle.twkb_table.specs.declared.reason.RowReason.TheVariants.{BadHeader}
-
--- ==== What one more record shows to a reader of tables.
 
 -- ==== What a reader of tables knows of the records read and the geometries returned.
 
@@ -110,10 +110,14 @@ all_named l records given (root ∷ more) (last, n, same) = record {
 -- ==== What one more record shows while a geometry is read.
 
 -- a reader in which a root waits is neither at the end nor spent
-pub root_waits : (s : State) (ps : List Point) (number : ℕ) → 0 < length (waiting_rows s ps)
+pub root_waits : (l : Allowance) (s : State) (ps : List Point) (last : Record) (root : List Row) (number : ℕ)
+    → AreWaiting l s ps last root → 0 < length root
     → (is_over s ≡ false) × (is_stopped s ≡ false) × (records_read s number ≡ number + 1)
-root_waits (state.Waiting root) ps number some = (refl, refl, refl)
-root_waits _ ps number some = absurd (omega (arith, some))
+    × (is_waiting s ≡ true)
+root_waits l (state.Waiting one) ps last root number waits some = (refl, refl, refl, refl)
+root_waits l state.InRecord ps last root number waits some = (refl, refl, refl, refl)
+root_waits l _ ps last root number waits some =
+    absurd (omega (arith, some, ap (λ (rs : List Row). length rs) waits))
 
 -- the geometry that was being read is complete
 completed : {R : Type 0} (l : Allowance) (remaining : R → Option (List ℕ)) (told : Option (List ℕ))
@@ -191,16 +195,16 @@ module _ {R : Type 0} (l : Allowance) (remaining : R → Option (List ℕ)) (tol
   }
 
   -- the root of another geometry
-  pub reads_root : (new : Progress R) (here : Record)
-      → ReadsRecord remaining old.source (old.number + 1) (Ok true) here new.source (new.number + 1)
-      → limits_of new.rows ≡ limits_of old.rows → EndsBefore old.rows so_far here new.rows
+  pub reads_root : (new : Progress R)
+      → ReadsRecord remaining old.source (old.number + 1) (Ok true) new.last new.source (new.number + 1)
+      → limits_of new.rows ≡ limits_of old.rows → EndsBefore old.rows so_far new.last new.rows
       → Completes l remaining told records given so_far new
-  reads_root new here (comes, next, few) limits e =
+  reads_root new (comes, next, few) limits e =
+      let here = new.last in
       let n = root_more l r.seen here all_now.geometries e.row all_now.named
       (judged_all here (Accepted e.row) e.judged) e.root in
-      let some = ap (λ (rs : List Row). length rs) e.waits in
-      let (going, unspent, count) = root_waits new.rows.state new.rows.points.items new.number
-      (omega (arith, some)) in
+      let (going, unspent, count, ready) = root_waits (limits_of old.rows) new.rows.state new.rows.points.items here
+      (e.row ∷ []) new.number e.waits (omega arith) in
       let seen = r.seen ++ here ∷ [] in
       let source = comes told r.seen r.source in
       let many = one_more here new.number next in
@@ -213,9 +217,10 @@ module _ {R : Type 0} (l : Allowance) (remaining : R → Option (List ℕ)) (tol
           count = count ∙ many;
           few = omega (arith, many, few);
           limits = limits ∙ r.limits;
-          gave = subst (λ rs. HaveGiven l seen all_now.geometries rs (is_over new.rows.state))
-              (sym e.waits)
-              (n.geometry, n.named, n.rows_are, going);
+          root = e.row ∷ [];
+          waits = subst (λ (m : Allowance). AreWaiting m new.rows.state new.rows.points.items here (e.row ∷ []))
+              (sym limits) e.waits;
+          gave = (n.geometry, n.named, n.rows_are, going);
           unspent = unspent;
         };
       })
@@ -239,13 +244,14 @@ module _ {R : Type 0} (l : Allowance) (remaining : R → Option (List ℕ)) (tol
           count = ap (λ (s : State). records_read s new.number) over ∙ (same ∙ r.count);
           few = r.few;
           limits = limits ∙ r.limits;
-          gave = subst (λ (s : State). HaveGiven l r.seen all_now.geometries
-              (waiting_rows s new.rows.points.items)
-              (is_over s)) (sym over) (
-                names_so_far l r.seen all_now.geometries all_now.named,
-                inr
-                    refl,
-              );
+          root = [];
+          waits = subst (λ (s : State). AreWaiting (limits_of new.rows) s new.rows.points.items new.last [])
+              (sym over) refl;
+          gave = subst (λ (s : State). HaveGiven l r.seen all_now.geometries [] (is_over s)) (sym over) (
+            names_so_far l r.seen all_now.geometries all_now.named,
+            inr
+                refl,
+          );
           unspent = ap is_stopped over;
         };
       })
@@ -311,24 +317,24 @@ completes_some l remaining told records given (root ∷ more) now some done = do
 
 -- a record was read
 pub row_shown : {R : Type 0} (remaining : R → Option (List ℕ)) (old new : Progress R)
-    (before after : List Row) (here : Record) (more : Bool) → 0 < length before
-    → ReadsRecord remaining old.source (old.number + 1) (Ok true) here new.source (new.number + 1)
-    → limits_of new.rows ≡ limits_of old.rows → ReadsRow old.rows before here (Ok more) new.rows
+    (before after : List Row) (more : Bool) → 0 < length before
+    → ReadsRecord remaining old.source (old.number + 1) (Ok true) new.last new.source (new.number + 1)
+    → limits_of new.rows ≡ limits_of old.rows → ReadsRow old.rows before new.last (Ok more) new.rows
     after
     → ReadsNextRow remaining old before (Ok more) after new
-row_shown remaining old new before after here true some reads limits g = (
+row_shown remaining old new before after true some reads limits g = (
   λ l told records given r. reads_more l remaining told records given before old r
-      new after here some reads limits g,
+      new after new.last some reads limits g,
   g.keeps,
   (let next = reads.1 in omega (arith, next)),
   (let few = reads.2 in omega (arith, few)),
 )
-row_shown remaining old new before after here false some reads limits (e, same) = (
+row_shown remaining old new before after false some reads limits (e, same) = (
   λ l told records given r. completes_some l remaining told records given before new some
-      (reads_root l remaining told records given before old r new here reads limits e),
+      (reads_root l remaining told records given before old r new reads limits e),
   same,
-  (let one = ap (λ (rs : List Row). length rs) e.waits in
-      root_waits new.rows.state new.rows.points.items new.number (omega (arith, one))).1,
+  (root_waits (limits_of old.rows) new.rows.state new.rows.points.items new.last (e.row ∷ []) new.number
+      e.waits (omega arith)).1,
 )
 
 -- no record was read
@@ -387,11 +393,11 @@ module _ {R : Type 0} (l : Allowance) (remaining : R → Option (List ℕ)) (tol
   pub fresh : now.rows.state ≡ state.Fresh → StandsAt l remaining told records given now
       → (records ≡ []) × (given ≡ []) × HasGiven remaining told [] now.source
   fresh is s =
+      let empty : s.root ≡ [] = subst (λ (t : State). AreWaiting (limits_of now.rows) t now.rows.points.items
+      now.last s.root) is s.waits in
       let (none, before) = none_read l records given (is_over now.rows.state)
       (subst (λ (t : State). records_read t now.number ≡ length records) is s.count)
-      (subst (λ (t : State). HaveGiven l records given (waiting_rows t now.rows.points.items)
-      (is_over now.rows.state))
-      is s.gave) in (
+      (subst (λ rs. HaveGiven l records given rs (is_over now.rows.state)) empty s.gave) in (
         none,
         before,
         subst (λ rs. HasGiven remaining told rs now.source) none
@@ -418,19 +424,19 @@ module _ {R : Type 0} (l : Allowance) (remaining : R → Option (List ℕ)) (tol
     all = subst (λ e. standing remaining told r.seen e now.source) over r.stands.source;
     named = named_some l r.seen given
         (subst (λ n. 0 < n) r.stands.count (over_read now.rows.state now.number over))
-        (so_far_named l r.seen given (waiting now.rows) (is_over now.rows.state) r.stands.gave
-        over);
+        (so_far_named l r.seen given r.stands.root (is_over now.rows.state) r.stands.gave over);
     stands = r.stands;
   }
 
   -- the root that waits is that of the geometry which is read now
   pub begun : (rows : RowReader) → limits_of rows ≡ limits_of now.rows
-      → 0 < length (waiting now.rows)
-      → Reaches l remaining told records given now
-      → IsReading l remaining told records given (waiting now.rows) (record now { rows = rows })
-  begun rows limits some r =
-      let (going, unspent, count) = root_waits now.rows.state now.rows.points.items now.number
-      some in
+      → (r : Reaches l remaining told records given now) → is_waiting now.rows.state ≡ true
+      → IsReading l remaining told records given r.stands.root (record now { rows = rows })
+  begun rows limits r ready =
+      let some = some_waits (limits_of now.rows) now.rows.state now.rows.points.items now.last r.stands.root
+      r.stands.waits ready in
+      let (going, unspent, count, same) = root_waits (limits_of now.rows) now.rows.state now.rows.points.items
+      now.last r.stands.root now.number r.stands.waits some in
       record {
         seen = r.seen;
         extends = r.extends;
@@ -438,9 +444,17 @@ module _ {R : Type 0} (l : Allowance) (remaining : R → Option (List ℕ)) (tol
         count = sym count ∙ r.stands.count;
         few = r.stands.few;
         limits = limits ∙ r.stands.limits;
-        named = a_tree l r.seen given (waiting now.rows) (is_over now.rows.state) r.stands.gave
-            some;
+        named = a_tree l r.seen given r.stands.root (is_over now.rows.state) r.stands.gave some;
       }
+
+  -- so it is if its rows were put into a form
+  pub begun_in : (rows : RowReader) (flat : List Row) → limits_of rows ≡ limits_of now.rows
+      → Reaches l remaining told records given now → is_waiting now.rows.state ≡ true
+      → ((root : List Row) → Awaits now.rows now.last root → root ≡ flat)
+      → IsReading l remaining told records given flat (record now { rows = rows })
+  begun_in rows flat limits r ready put =
+      subst (λ root. IsReading l remaining told records given root (record now { rows = rows }))
+      (put r.stands.root r.stands.waits) (begun rows limits r ready)
 
   -- the geometry of the rows that were given
   pub tree_given : (flat : List Row) (tree : Tree) → rows 0 tree ≡ flat → IsTree tree
@@ -462,9 +476,28 @@ module _ {R : Type 0} (l : Allowance) (remaining : R → Option (List ℕ)) (tol
       → StandsAt l remaining told records given now
       → GivesRows l remaining told records given (point_row p same ∷ []) new
   point_given new p q same waits is completes s =
-      let one = ap (λ (rs : List Row). length rs) waits in
+      let some : 0 < length (waiting now.rows) = omega (arith, ap (λ (rs : List Row). length rs) waits) in
+      let root = waits_alone (limits_of now.rows) now.rows.state now.rows.points.items now.last s.root s.waits
+      some in
+      let (going, unspent, count, ready) = root_waits (limits_of now.rows) now.rows.state now.rows.points.items
+      now.last s.root now.number s.waits (omega (arith, some, ap (λ (rs : List Row). length rs) root)) in
       rw is (subst (λ ws. Completes l remaining told records given ws new) waits
-      (completes (begun now.rows refl (omega (arith, one)) (reaches s))))
+      (completes (begun_in now.rows (waiting now.rows) refl (reaches s) ready
+      (λ one held. waits_alone (limits_of now.rows) now.rows.state now.rows.points.items now.last one held some))))
+
+-- no root that waits is refused
+pub begin_shown : {R : Type 0} (remaining : R → Option (List ℕ)) (old : TableReader R) (now : Progress R)
+    (number : ℕ) (rows : RowReader) (why : Stop RowReason)
+    → Wherever remaining old (λ l told records given. Reaches l remaining told records given now)
+    → IfRefused (λ reason. (root : List Row) → Awaits now.rows now.last root → ⊥) why
+    → rows.state ≡ state.Spent
+    → Faults remaining old (fault_of number why) × IsMarked (fault_of number why) rows
+begin_shown remaining old now number rows stop.Memory reaches none spent =
+    (λ l told records given s. tt, (stop_fresh number stop.Memory, ap is_stopped spent))
+begin_shown remaining old now number rows (stop.Refused reason) reaches none spent = (
+  λ l told records given s. (let r = reaches l told records given s in absurd (none r.stands.root r.stands.waits)),
+  (stop_fresh number (stop.Refused reason), ap is_stopped spent),
+)
 
 -- ---- the header
 

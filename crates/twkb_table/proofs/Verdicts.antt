@@ -49,9 +49,6 @@ use Rattle.twkb_tree.specs.Open.{row_of, child_of}
 use Rattle.twkb_tree.specs.Refusal.{Check, first_failed, place_checks, id_checks, precision_checks}
 use Rattle.twkb_tree.specs.declared.row_checks.Refusal.{Refusal}
 
--- ==== The verdict on a record is its row exactly if that row may come next, and tables consist of
--- such records.
-
 -- ==== Steps along the chain of reasons.
 
 -- ---- tests

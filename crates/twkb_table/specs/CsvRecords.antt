@@ -91,8 +91,9 @@ MissesRecord {R} remaining old count f =
     ⊎ ((f ≡ fault.TooManyRecords) × (RECORD_CAP ≤ count + 1)
     × ((here : Record) × (new : Reader (MutBor (Tap R))) × Advances remaining old here new))
 
--- what the result of reading a record after the header says, if this many records were read before:
--- one more, the end of the text, or a fault
+-- what the result of reading a record after the header says, with the numbers of records read before
+-- and after it: one more, below RECORD_CAP; the end of the text; or a fault, after which nothing is
+-- said of the number
 abbrev pub ReadsRecord : {R : Type 0} → (R → Option (List ℕ)) → Reader (MutBor (Tap R)) → ℕ
     → Result Bool TableFault → Record → Reader (MutBor (Tap R)) → ℕ → Type 0
 ReadsRecord remaining old count (Ok true) here new counted =

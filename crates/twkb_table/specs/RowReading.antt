@@ -1,11 +1,15 @@
 -- The state of a reader of rows in the geometry that it reads.
-use Rattle.std.specs.Prelude.{◌≡◌, ◌<◌, List, [], ◌∷◌, ◌++◌, length, reverse, Result, Ok, Err, true, false, Bool}
+use Rattle.std.specs.Prelude.{◌≡◌, ◌<◌, ◌⊎◌, List, [], ◌∷◌, ◌++◌, length, reverse, Result, Ok, Err, true, false, Bool}
 use Rattle.twkb_tree.specs.Limits.{Allowance}
 use Rattle.twkb_tree.specs.Rows.{Row as TableRow, AreValidRowsOfOne}
 use Rattle.twkb_tree.specs.declared.open_rows.OpenRow.{OpenRow}
 use Rattle.twkb_tree.specs.Open.{AreOpen}
 use Rattle.twkb_table.specs.Record.{Record}
-use Rattle.twkb_table.specs.Waiting.{waiting_rows}
+use Rattle.twkb_table.specs.Waiting.{waiting_rows, AreWaiting}
+use Rattle.twkb_points.specs.Point.{Point}
+use Rattle.twkb_flat.specs.Rows.{row_with}
+use Rattle.twkb_table.specs.Head.{head_row, JudgedAs}
+use Rattle.twkb_table.specs.declared.head.RowHead.{RowHead}
 use Rattle.twkb_table.specs.declared.row_reader.State.TheVariants as state
 use Rattle.twkb_flat.specs.declared.stop.Stop.{Stop}
 use Rattle.twkb_flat.specs.Taking.{IfRefused}
@@ -17,9 +21,19 @@ use Rattle.twkb_table.specs.declared.row_reader.RowReader.{RowReader}
 abbrev pub limits_of : RowReader → Allowance
 limits_of reader = reader.limits
 
--- the root that waits, if one does
+-- the root that waits with its points, if one does
 abbrev pub waiting : RowReader → List TableRow
 waiting reader = waiting_rows reader.state reader.points.items
+
+-- these are the rows of the root that waits, if one does, after this record
+abbrev pub Awaits : RowReader → Record → List TableRow → Type 0
+Awaits reader fields rows = AreWaiting (limits_of reader) reader.state reader.points.items fields rows
+
+-- The points of the root are accepted, and it waits with them or in its record.
+pub record KeepsRoot (head : RowHead) (new : RowReader) : Type 0 where
+  pub own : List Point
+  pub judged : JudgedAs head (Accepted (row_with (head_row head) own))
+  pub place : (waiting new ≡ row_with (head_row head) own ∷ []) ⊎ (new.state ≡ state.InRecord)
 
 -- this is the verdict on the record after these rows of the last geometry, whatever rows come
 -- before them; if there are none of these rows, no row comes before the record
@@ -50,7 +64,7 @@ pub record GoesOn (old : RowReader) (before : List TableRow) (fields : Record) (
 -- The record is the root of the next geometry, and waits.
 pub record EndsBefore (old : RowReader) (before : List TableRow) (fields : Record) (new : RowReader) : Type 0 where
   pub row : TableRow
-  pub waits : waiting new ≡ row ∷ []
+  pub waits : AreWaiting (limits_of old) new.state new.points.items fields (row ∷ [])
   pub root : row.depth ≡ 0
   pub judged : JudgedAfter (limits_of old) before fields (Accepted row)
 

@@ -2,6 +2,7 @@
 use Rattle.std.specs.Prelude.{◌≡◌, ◌≢◌, ℕ, ◌+◌, ◌<◌, ◌⊎◌, List, [], ◌∷◌, ◌++◌, length, Option}
 use Rattle.std.specs.Prelude.{IfSome, Result, Ok, Err, Bool, true, false, ⊤}
 use Rattle.std.specs.Borrow.{MutBor}
+use Rattle.csv.specs.Records.{fields_of}
 use Rattle.csv.specs.declared.reader.Reader.{Reader}
 use Rattle.twkb_io.specs.declared.tap.Tap.{Tap}
 use Rattle.twkb_tree.specs.Tree.{Tree}
@@ -10,8 +11,8 @@ use Rattle.twkb_tree.specs.Limits.{Allowance, IsValid}
 use Rattle.twkb_table.specs.Record.{Record}
 use Rattle.twkb_table.specs.RowFault.{Named, AreComplete, all_but_last}
 use Rattle.twkb_table.specs.CsvRecords.{AreRecordsOf, BeginWith, HasGiven, standing}
-use Rattle.twkb_table.specs.RowReading.{limits_of, waiting, Keeps}
-use Rattle.twkb_table.specs.Waiting.{IsPoint, is_over, is_stopped}
+use Rattle.twkb_table.specs.RowReading.{limits_of, waiting, Awaits, Keeps}
+use Rattle.twkb_table.specs.Waiting.{IsPoint, is_over, is_stopped, is_waiting}
 use Rattle.twkb_table.specs.declared.row_reader.RowReader.{RowReader}
 use Rattle.twkb_table.specs.declared.row_reader.State.{State}
 use Rattle.twkb_table.specs.declared.row_reader.State.TheVariants as state
@@ -37,15 +38,21 @@ HaveGiven l records given (root ∷ more) ended = (last : Tree) × Named l recor
     × (rows 0 last ≡ root ∷ more) × (ended ≡ false)
 
 -- What a reader of tables has read: its reader of `csv`, the number of records after the header,
--- and its rows.
+-- its rows, and the last record.
 pub record Progress (R : Type 0) : Type 0 where
   pub source : Reader (MutBor (Tap R))
   pub number : ℕ
   pub rows : RowReader
+  pub last : Record
 
 -- what this reader has read
 abbrev pub progress : {R : Type 0} → TableReader R → Progress R
-progress reader = record { source = reader.reader; number = reader.number; rows = reader.rows }
+progress reader = record {
+  source = reader.reader;
+  number = reader.number;
+  rows = reader.rows;
+  last = fields_of reader.last;
+}
 
 -- whether the end of the table was reached, so that no root waits
 abbrev pub is_ended : {R : Type 0} → TableReader R → Bool
@@ -70,7 +77,9 @@ pub record StandsAt {R : Type 0} (l : Allowance) (remaining : R → Option (List
     pub count : records_read now.rows.state now.number ≡ length records
     pub few : length records < RECORD_CAP
     pub limits : limits_of now.rows ≡ l
-    pub gave : HaveGiven l records given (waiting now.rows) (is_over now.rows.state)
+    pub root : List Row
+    pub waits : Awaits now.rows now.last root
+    pub gave : HaveGiven l records given root (is_over now.rows.state)
     pub unspent : is_stopped now.rows.state ≡ false
 
 -- a reader of tables has read these records, and returned these geometries, as in `StandsAt`
@@ -249,7 +258,7 @@ IsMarked f rows = (f ≢ fault.Spent) × (is_stopped rows.state ≡ true)
 
 -- a root waits if `found` is true; the table's end was reached if not
 abbrev pub IsReady : Bool → RowReader → Type 0
-IsReady true rows = 0 < length (waiting rows)
+IsReady true rows = is_waiting rows.state ≡ true
 IsReady false rows = is_over rows.state ≡ true
 
 -- what the result of reading the header says: no root waits yet, or a fault

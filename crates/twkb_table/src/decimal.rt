@@ -99,9 +99,9 @@ fn negative_of(field: &[u8]) -> Option<i64>
     Some(-size)
 }
 
-// The number that the first eight bytes of a field spell as decimal digits, and 8, or `None` if one
-// of them is no digit; of a shorter field, the value of its first digit, and 1. The field must
-// begin with a digit from 1 to 9.
+// Fast path: the number that the first eight bytes of a field spell as decimal digits, and 8; of a
+// shorter field, the value of its first digit, and 1. `None` proves nothing about the field, which
+// must begin with a digit from 1 to 9.
 #[inline(always)]
 fn first_digits(field: &[u8]) -> Option<(u64, usize)>
     requires some { 0 < length field.now }

@@ -22,7 +22,7 @@ pub fn put_flat_rows(rows: &Rows, work: &mut Work, text: &mut Vec<u8>) -> Result
         }) }
     ensures same { OnErr result (text.new.items ≡ text.old.items) }
 
-    // each row and each point is read at most once
+    // no more reads than there are rows and points
     ensures nodes { work.new.node_reads ≤ work.old.node_reads + length rows.now.flat }
     ensures points { work.new.point_reads ≤ work.old.point_reads + length (row_points rows.now.flat) }
 {

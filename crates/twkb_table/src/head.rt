@@ -3,7 +3,7 @@ use crate::places::refused_count;
 use crate::reason::RowReason;
 use twkb_flat::{PointSource, Row, Stop};
 use twkb_points::{PointTail, Pt};
-use twkb_polyline::{PolyFault, decode_into, decode_one};
+use twkb_polyline::{PolyFault, count_points, decode_into, decode_one};
 use twkb_tree::row_rules::has_points;
 use twkb_tree::{Kind, Limits, RowPlace};
 
@@ -19,10 +19,11 @@ pub(crate) struct RowHead<'a> {
 }
 
 impl RowHead<'_> {
-    ghost use Rattle.std.specs.Prelude.{◌≡◌, ◌↔◌, ◌∷◌, [], IfSome, IsTrue};
+    ghost use Rattle.std.specs.Prelude.{◌≡◌, ◌↔◌, ◌∷◌, [], IfSome, IsTrue, OnOk, IfErr};
+    ghost use Rattle.twkb_flat.specs.Taking.{IfRefused};
     ghost use Rattle.twkb_flat.specs.Rows.{row_with};
-    ghost use Rattle.twkb_table.specs.Judged.{Accepted};
-    ghost use Rattle.twkb_table.specs.Head.{head_row, HasNeedlessText, JudgedAs};
+    ghost use Rattle.twkb_table.specs.Judged.{Accepted, Refused};
+    ghost use Rattle.twkb_table.specs.Head.{head_row, HasNeedlessText, IsAccepted, JudgedAs};
 
     // The row without its points.
     #[inline(always)]
@@ -59,6 +60,31 @@ impl RowHead<'_> {
             return None;
         }
         decode_one(self.text)
+    }
+
+    // Judges the points of the row as `append_to` does, but keeps none: `room` is for a few of them
+    // at a time, in place of those in it. An `Err` is the first reason against them, or want of
+    // memory for these few.
+    #[inline(always)]
+    pub(crate) fn judge_points(&self, room: &mut Vec<Pt>) -> Result<(), Stop<RowReason>>
+        ensures accepted { OnOk result (IsAccepted self.now) }
+        ensures refused { IfErr result (IfRefused (λ reason. JudgedAs self.now (Refused reason))) }
+    {
+        if self.has_needless_text() {
+            return Err(Stop::Refused(RowReason::PolylineNotAllowed));
+        }
+        let left = self.limits.points().saturating_sub(self.row_place.points);
+        let count = match count_points(self.text, left, room) {
+            Ok(count) => count,
+            Err(PolyFault::Memory) => return Err(Stop::Memory),
+            Err(PolyFault::At { offset, reason }) => {
+                return Err(Stop::Refused(RowReason::Polyline(offset, reason)));
+            }
+        };
+        match refused_count(&self.row_place, self.kind, count) {
+            Some(reason) => Err(Stop::Refused(reason)),
+            None => Ok(()),
+        }
     }
 }
 

@@ -3,6 +3,7 @@
 
 mod decimal;
 mod fields;
+mod first_row;
 mod flat_text;
 mod geometry_text;
 mod head;

@@ -24,7 +24,8 @@ impl<'a, R: Read> TableReader<'a, R> {
     /// Fast path: if `has_point`, returns the precision and the point of the next geometry, after
     /// the next root was accepted or the table ended, as `next_flat` does; else `None`, reading
     /// nothing. Calls of both may be mixed. An `Err` is as with `next_flat`, and after it each call
-    /// returns `Spent`. Takes memory for the reader of `csv`, one record and one root's points.
+    /// returns `Spent`. Takes memory for the reader of `csv`, one record, and the points of the
+    /// next root if its text has at most 1 MiB.
     #[inline(always)]
     pub fn next_point(&mut self) -> Result<Option<(i8, Pt)>, TableFault>
         ensures gives { IfOk result (λ found. IfSome found

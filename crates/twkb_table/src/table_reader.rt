@@ -56,8 +56,10 @@ impl<'a, R: Read> TableReader<'a, R> {
 
     /// Reads the next geometry into a flat form, in place of its rows, and returns whether there
     /// was one. It also reads the next root, so an `Err` may be about that root. The form is empty
-    /// after false or an `Err`; after an `Err` each call returns `Spent`. Takes memory for the
-    /// reader of `csv`, one record, one root's points, the open rows and the form.
+    /// after false or an `Err`. An `Err` is a refused record with its number, `TooManyRecords`,
+    /// `Source` or `Memory`, and after one each call returns `Spent`. Takes memory for the reader
+    /// of `csv`, one record, the open rows, the form, and the points of the next root if its text
+    /// has at most 1 MiB.
     pub fn next_flat(&mut self, flat: &mut Flat) -> Result<bool, TableFault>
         ensures gives { IfOk result (λ found. found ≡ true → Gives R.remaining self.old flat.new self.new) }
         ensures ends { IfOk result (λ found. found ≡ false → Ends R.remaining self.old self.new) }
@@ -133,8 +135,9 @@ impl<'a, R: Read> TableReader<'a, R> {
     }
 
     // Reads the next geometry into a flat form, in place of its rows, and returns it as a tree;
-    // `None` at the table's end. Takes memory. An `Err` is as with `next_flat`, or `Memory` if
-    // there is none for the tree.
+    // `None` at the table's end. Takes memory. An `Err` is a refused record with its number,
+    // `TooManyRecords`, `Source`, `Memory`, for the tree too, or `Spent` after an earlier one; it
+    // leaves the reader spent.
     #[inline(never)]
     fn next_tree(&mut self, flat: &mut Flat) -> Result<Option<Geometry>, TableFault>
         ensures gives { IfOk result (λ found. IfSome found
@@ -156,8 +159,9 @@ impl<'a, R: Read> TableReader<'a, R> {
     }
 
     // Reads the next geometry into a flat form, which must be empty, and returns whether there was
-    // one. The reader must be neither at the end nor spent. Takes memory. An `Err`, as with
-    // `next_flat`, marks the reader as spent; nothing is then known of the form.
+    // one. The reader must be neither at the end nor spent. Takes memory. An `Err` marks the reader
+    // as spent: a refused record with its number, `TooManyRecords`, `Source` or `Memory`; nothing
+    // is then known of the form.
     #[inline(always)]
     fn read_geometry(&mut self, flat: &mut Flat) -> Result<bool, TableFault>
         requires more { is_ended self.old ≡ false }
@@ -168,9 +172,10 @@ impl<'a, R: Read> TableReader<'a, R> {
         if !self.find_root()? {
             return Ok(false);
         }
-        let Ok(()) = self.rows.begin(flat) else {
-            return Err(TableFault::Memory);
-        };
+        match self.rows.begin(&self.last, flat) {
+            Ok(()) => {}
+            Err(stop) => return Err(fault_at(self.number, stop)),
+        }
         while self.next_row(flat)? {}
         Ok(true)
     }
@@ -178,7 +183,8 @@ impl<'a, R: Read> TableReader<'a, R> {
     // Reads the next record after the rows of a flat form, which must be those of the geometry that
     // is being read. Appends a row of that geometry to them and returns true, or returns false if
     // the record is the root of the next geometry, which then waits, or if the table ended. Takes
-    // memory. An `Err` is as with `next_flat`, and leaves the reader spent.
+    // memory. An `Err` marks the reader as spent: a refused record with its number,
+    // `TooManyRecords`, `Source` or `Memory`.
     #[inline(always)]
     fn next_row(&mut self, flat: &mut Flat) -> Result<bool, TableFault>
         requires { Keeps self.old.rows flat.old }
@@ -188,7 +194,7 @@ impl<'a, R: Read> TableReader<'a, R> {
             self.rows.stop(State::Over);
             return Ok(false);
         }
-        match self.rows.read_row(&self.last, flat) {
+        match self.rows.read_row::<R>(&self.last, flat) {
             Ok(more) => Ok(more),
             Err(stop) => Err(fault_at(self.number, stop)),
         }
@@ -196,7 +202,7 @@ impl<'a, R: Read> TableReader<'a, R> {
 
     // Makes sure that the root of the next geometry waits, and returns whether there is one. If no
     // record was read, reads the header and the first root. The reader must be neither at the end
-    // nor spent. Takes memory. An `Err` is as with `next_flat`, and marks the reader as spent.
+    // nor spent. Takes memory. An `Err`, as with `read_first`, marks the reader as spent.
     #[inline(always)]
     fn find_root(&mut self) -> Result<bool, TableFault>
         requires more { is_ended self.old ≡ false }
@@ -204,14 +210,15 @@ impl<'a, R: Read> TableReader<'a, R> {
         ensures { FindsRoot R.remaining self.old result self.new }
     {
         match self.rows.state {
-            State::Waiting(_) => Ok(true),
+            State::Waiting(_) | State::InRecord => Ok(true),
             _ => self.read_first(),
         }
     }
 
-    // Reads the header and the first root, which then waits, and returns whether there is one. No
-    // record may have been read before. Takes memory. An `Err` is as with `next_flat`, and marks
-    // the reader as spent.
+    // Reads the header and the first root, which then waits with its points, since no geometry is
+    // before it, and returns whether there is one. No record may have been read before. Takes
+    // memory. An `Err` marks the reader as spent: a refused record with its number (1 for the
+    // header), `Source` or `Memory`.
     #[inline(never)]
     fn read_first(&mut self) -> Result<bool, TableFault>
         requires { self.old.rows.state ≡ State.Fresh }
@@ -237,9 +244,10 @@ impl<'a, R: Read> TableReader<'a, R> {
         Ok(())
     }
 
-    // Reads the next record as a root, which then waits, and returns whether there is one. No root
-    // may wait before but that of a point that is not empty: then too only a root can come next.
-    // Takes memory. An `Err` is as with `next_flat`, and marks the reader as spent.
+    // Reads the next record as a root, which then waits with its points, and returns whether there
+    // is one. No root may wait before but that of a point that is not empty: then too only a root
+    // can come next. Takes memory. An `Err` marks the reader as spent: a refused record with its
+    // number, `TooManyRecords`, `Source` or `Memory`.
     #[inline(always)]
     pub(crate) fn next_root(&mut self) -> Result<bool, TableFault>
         requires { IsAlone (waiting self.old.rows) }

@@ -36,8 +36,6 @@ use Rattle.twkb_tree.proofs.RowLaws.{deep_reverse, weight-onto}
 use Rattle.twkb_tree.proofs.LimitLaws.{one_since_root, continued}
 use Rattle.twkb_tree.specs.declared.row_place.RowPlace.{RowPlace}
 
--- ==== The open rows decide which row may come next, and an accepted row moves them on.
-
 -- ==== What the open rows say of the rows so far: enough to decide about the next row.
 
 -- the kind of the row, if there is a row

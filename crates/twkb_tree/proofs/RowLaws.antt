@@ -41,8 +41,6 @@ pub all_apart : {X : Type 0} (P : X → Type 0) (xs ys : List X) → AllByRecurs
 all_apart P [] ys h = (tt, h)
 all_apart P (x ∷ xs) ys h = let t = all_apart P xs ys h.1 in ((h.0, t.0), t.1)
 
--- ==== The rows of geometries: their points and nesting, and where a geometry begins and ends.
-
 -- ==== The points of a geometry are those of its rows, in order.
 
 -- the points of joined rows

@@ -50,8 +50,6 @@ use Rattle.twkb_writer.specs.declared.precisions.Precisions.TheVariants.{Absent}
 use Rattle.twkb_writer.proofs.TreeBytes.{part_slots, points_ones}
 use Rattle.twkb_writer.proofs.BelowLemmas.{deep-rings}
 
--- ==== The pass over rows, from the last to the first, and bounds on the totals that it adds up.
-
 -- ==== The totals of the rows at one depth, by the first row.
 
 -- a row above the depth ends its rows
@@ -350,8 +348,6 @@ blank_last used by_depth l none some old = record {
       (omega (arith, old.within, old.size)) (λ (other : k ≢ used - 1).
       old.blanks k (omega (arith, other)) small);
 }
-
--- ==== The totals of a simple geometry, from the rows of its parts.
 
 -- ==== The totals of the parts of a simple geometry, which are rows without a precision.
 

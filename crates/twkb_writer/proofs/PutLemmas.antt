@@ -20,8 +20,6 @@ use Rattle.twkb_tree.specs.Rows.{Row, row_points}
 use Rattle.twkb_flat.specs.declared.work.Work.{Work}
 use Rattle.twkb_writer.specs.Nodes.{Reads, ReadsExactly}
 
--- ==== Puts and points, one after the other.
-
 -- ==== Puts one after another.
 
 -- two lists appended, one after the other
@@ -276,8 +274,6 @@ tail_first ps first count before p ahead new some before_is read new_is =
     tail_back ps first (first + count) p ahead new (omega (arith, some)) read
     (new_is ∙ ap (λ (n : ℕ). tail_of (p ∷ (part ps n (first + count) ++ ahead))) before_is)
     ∙ ap (λ (l : List Point). tail_of (l ++ ahead)) (whole_part ps first count)
-
--- ==== Counts of reads add up, those of a pass from the last row to the first too.
 
 -- ==== Counts of reads add up.
 

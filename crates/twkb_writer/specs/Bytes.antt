@@ -172,7 +172,7 @@ point_frame Plain size = 0 ∷ []
 abbrev pub one_line : ℤ → List Point → Tree
 one_line p ps = simple p (line ps)
 
--- a line of this many points was measured, each of its points was read twice, and no node was read
+-- a line of this many points was measured, and twice as many reads of points were counted, and none of nodes
 pub record MeasuresLine (old : Work) (points : ℕ) (new : Work) : Type 0 where
   pub more_points : new.points ≡ saturated (old.points + points)
   pub more_nodes : new.nodes ≡ saturated (old.nodes + 1)

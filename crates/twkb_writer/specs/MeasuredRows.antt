@@ -124,7 +124,7 @@ pub record Measures (old : Work) (points nodes entries : ℕ) (new : Work) : Typ
   pub same_point_reads : new.point_reads ≡ old.point_reads
   pub same_node_reads : new.node_reads ≡ old.node_reads
 
--- these points, nodes and entries were measured, and each point and node was read exactly once
+-- these points, nodes and entries were measured, and as many reads of points and of nodes were counted
 pub record Counted (old : Work) (points nodes entries : ℕ) (new : Work) : Type 0 where
   pub more_points : new.points ≡ saturated (old.points + points)
   pub more_nodes : new.nodes ≡ saturated (old.nodes + nodes)

@@ -66,7 +66,7 @@ own_points_in node ps = take node.points (drop node.first.0 ps)
 
 -- ==== The work that reading a flat form adds to the counts.
 
--- at most this many nodes and points were read, no count was lowered, and nothing else was counted
+-- at most so many reads of nodes and of points were counted, no count was lowered, and nothing else was counted
 pub record Reads (old : Work) (nodes points : ℕ) (new : Work) : Type 0 where
   pub node_reads : new.node_reads ≤ old.node_reads + nodes
   pub point_reads : new.point_reads ≤ old.point_reads + points
@@ -76,7 +76,7 @@ pub record Reads (old : Work) (nodes points : ℕ) (new : Work) : Type 0 where
   pub same_nodes : new.nodes ≡ old.nodes
   pub same_entries : new.entries ≡ old.entries
 
--- exactly this many nodes and points were read, and nothing else was counted
+-- exactly so many reads of nodes and of points were counted, each count up to 2^64 - 1, and nothing else was counted
 pub record ReadsExactly (old : Work) (nodes points : ℕ) (new : Work) : Type 0 where
   pub node_reads : new.node_reads ≡ saturated (old.node_reads + nodes)
   pub point_reads : new.point_reads ≡ saturated (old.point_reads + points)

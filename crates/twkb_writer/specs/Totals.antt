@@ -121,7 +121,8 @@ abbrev pub blob_len : Style → ℕ → ℕ
 blob_len Full size = 2 + number_len size + size
 blob_len Plain size = 2 + size
 
--- the totals after a component of a geometry is added before the rows
+-- the totals `l` of some rows after a component of a geometry is added before them: its own row has
+-- `own` points, and `below` totals the rows under it; bounds and precisions stay as in `l`
 abbrev pub with_component : Kind → ℕ → Option ℤ → RowTotals → RowTotals → RowTotals
 with_component k own id below l = record {
   members = l.members + 1;
@@ -132,7 +133,8 @@ with_component k own id below l = record {
   precisions = l.precisions;
 }
 
--- the totals after a geometry is added before the rows; its box and body have this many bytes
+-- the totals `l` of some rows after a geometry is added before them: its box and body have `size`
+-- bytes, `below` totals the rows under it, and `t` its points, except those of collection members
 abbrev pub with_geometry : Style → ℕ → ℤ → Option ℤ → RowTotals → TailTotals → RowTotals → RowTotals
 with_geometry style size p id below t l = record {
   members = l.members + 1;

@@ -18,8 +18,7 @@ use crate::points::put_points;
 use crate::sizes::Entry;
 use crate::tails::TailTotals;
 use crate::totals::RowTotals;
-use twkb_flat::laws::reads_fit;
-use twkb_flat::{Node, NodeId, PointId, Row, Work};
+use twkb_flat::{Node, NodeId, PointId, Row, Work, reads_fit};
 use twkb_grammar::Style;
 use twkb_io::Sink;
 use twkb_points::{Cursor, PointList};
@@ -46,7 +45,7 @@ fn line_node(precision: i8, points: u32) -> Node
 }
 
 // The entry, in a style, of the line through a list's points, which must be at most 2^24. The node
-// must be as `line_node` makes it for them. Reads each point once.
+// must be as `line_node` makes it for them. Counts as many reads of points as there are points.
 #[inline(always)]
 fn line_entry<L: PointList>(
     style: Style,
@@ -88,8 +87,8 @@ fn put_line_lead<S: Sink>(
 
 /// Writes the canonical blob of the line through a list's points, which must be at most 2^24, in a
 /// style and for a precision from -8 to 7; after an `Err` the sink got a prefix of it. Counts one
-/// node, one entry and the points as measured, and two reads of each point. The bytes go through
-/// the piece, whatever it holds. Takes no memory itself.
+/// node, one entry and the points as measured, and twice as many reads of points as there are
+/// points. The bytes go through the piece, whatever it holds. Takes no memory itself.
 #[inline(always)]
 pub fn write_line<L: PointList, S: Sink>(
     precision: i8,

@@ -16,8 +16,7 @@ use crate::sizes::Entry;
 use crate::tails::TailTotals;
 use crate::totals::RowTotals;
 use std::alloc::AllocError;
-use twkb_flat::laws::reads_fit;
-use twkb_flat::{Flat, Node, NodeId, Work};
+use twkb_flat::{Flat, Node, NodeId, Work, reads_fit};
 use twkb_grammar::Style;
 use twkb_points::{Cursor, Pt};
 use twkb_tree::Kind;
@@ -44,7 +43,7 @@ fn is_one_point(node: &Node) -> bool
 }
 
 // The entry, in a style, of the geometry of a form of one row, of any kind; the node and the
-// precision must be those of the row. Reads each point once.
+// precision must be those of the row. Counts as many reads of points as the row has points.
 fn row_entry(flat: &Flat, style: Style, node: &Node, precision: i8, work: &mut Work) -> Entry
     requires few { length (row_points flat.now) ≤ POINTS_CAP }
     requires one { length flat.now ≡ 1 }
@@ -73,8 +72,8 @@ fn keep_alone(entries: &mut Vec<Entry>, entry: Entry) -> Result<(), AllocError>
 }
 
 // Measures a flat form, which must have one row, in a style, and replaces the entries by its entry.
-// Reads the node and each point once. Takes memory for the entry if the vector has no room; after
-// an `Err` there are no entries.
+// Counts one read of a node, and as many reads of points as there are points. Takes memory for the
+// entry if the vector has no room; after an `Err` there are no entries.
 #[inline(always)]
 pub(crate) fn measure_one(
     flat: &Flat,

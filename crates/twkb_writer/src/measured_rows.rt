@@ -19,15 +19,38 @@ use crate::placed_points::PlacedPoints;
 use crate::sizes::{Entry, Sizes};
 use crate::tails::TailTotals;
 use std::alloc::{AllocError, Global};
-use twkb_flat::laws::reads_fit;
-use twkb_flat::{Flat, Node, NodeId, Work};
+use twkb_flat::{Flat, Node, NodeId, Work, reads_fit};
 use twkb_grammar::Style;
 
 // Returns `tail`, the totals of the points after a node's own in its geometry, with the node's own
 // before them. The node's points must be among `all`, which must have at most 2^24 points, and
-// `tail.bytes` must be at most 2^30. Reads each own point once, from the last to the first.
+// `tail.bytes` must be at most 2^30. Counts as many reads of points as the node has own points.
 #[inline(always)]
 pub(crate) fn take_points<P: PlacedPoints>(
+    all: &P,
+    node: &Node,
+    tail: TailTotals,
+    work: &mut Work,
+) -> TailTotals
+    requires within { node.now.first.0 + node.now.points ≤ length (P.points all.now) }
+    requires few { length (P.points all.now) ≤ POINTS_CAP }
+    requires room { tail.bytes ≤ weights_cap }
+    ensures value { (ahead : List Point) → tail ≡ tail_of ahead
+        → result ≡ tail_of (own_points_in node.now (P.points all.now) ++ ahead) }
+    ensures most { result.bytes ≤ tail.bytes + 20 * node.now.points }
+    ensures reads { ReadsExactly work.old 0 node.now.points work.new }
+{
+    reads_fit(*work);
+    // a copy, so that the loop keeps the count in a register: `work` may be in the caller's memory
+    let mut counted = *work;
+    let totals = take_each_point(all, node, tail, &mut counted);
+    work.point_reads = counted.point_reads;
+    totals
+}
+
+// The loop of `take_points`.
+#[inline(always)]
+fn take_each_point<P: PlacedPoints>(
     all: &P,
     node: &Node,
     tail: TailTotals,
@@ -131,7 +154,7 @@ pub(crate) fn take_row(
 }
 
 // Appends an entry, or nothing if it is `None`. Takes memory if the vector has no room for it or,
-// before the first entry, for `most` entries. An `Err` changes nothing.
+// before the first entry, for `most` entries.
 #[inline(always)]
 pub(crate) fn keep(
     entries: &mut Vec<Entry>,
@@ -161,8 +184,8 @@ pub(crate) fn before_row(node: &Node, points: TailTotals) -> TailTotals
 }
 
 // Measures a flat form in a style, row by row from the last to the first, and replaces the entries
-// and the depths. On `Ok` each node and each point was read once. Takes memory for the entries if
-// the vector has too little room; after an `Err` they are incomplete.
+// and the depths. On `Ok` as many reads of nodes and of points were counted as there are. Takes
+// memory for the entries if the vector has too little room; after an `Err` they are incomplete.
 fn measure_rows(
     flat: &Flat,
     style: Style,
@@ -191,8 +214,9 @@ fn measure_rows(
 }
 
 // Measures a flat form in a style and replaces the entries. `depths` may hold the totals of any
-// rows, and may be overwritten. On `Ok` each node and each point was read once. Takes memory for
-// the entries if the vector has too little room; after an `Err` they are incomplete.
+// rows, and may be overwritten. On `Ok` as many reads of nodes and of points were counted as there
+// are. Takes memory for the entries if the vector has too little room; after an `Err` they are
+// incomplete.
 #[inline(always)]
 fn measure_entries(
     flat: &Flat,
@@ -223,8 +247,8 @@ pub(crate) fn count_measured(points: u32, nodes: u32, entries: usize, work: &mut
 
 /// Measures a flat form in a style and replaces the sizes: one entry for each TWKB geometry in
 /// preorder, none if there is no node. `depths` may hold the totals of any rows, and may be
-/// overwritten. Reads each node and each point once, in one pass, and counts the reads, nodes,
-/// points and entries; after an `Err` the entries and the counts are incomplete. Takes memory for
+/// overwritten. Counts as many reads of nodes and of points as there are, and the nodes, points and
+/// entries as measured; after an `Err` the entries and the counts are incomplete. Takes memory for
 /// the entries if they have too little room; room for one for each node is enough.
 pub fn measure_into(
     flat: &Flat,
@@ -248,9 +272,9 @@ pub fn measure_into(
 }
 
 /// Measures a flat form in a style, and returns its sizes: one entry for each TWKB geometry in
-/// preorder, none if there is no node. Reads each node and each point once, in one pass, and counts
-/// the reads, nodes, points and entries; after an `Err` the counts are incomplete. Takes memory for
-/// the entries alone.
+/// preorder, none if there is no node. Counts as many reads of nodes and of points as there are,
+/// and the nodes, points and entries as measured; after an `Err` the counts are incomplete. Takes
+/// memory for the entries alone.
 pub fn measure_flat(
     alloc: Global,
     flat: &Flat,

@@ -32,8 +32,7 @@ struct RowPass {
 }
 
 impl RowPass {
-    // Adds a row with these points before the rows added so far. Reads each point once. Takes no
-    // memory.
+    // Adds a row with these points before the rows added so far. Takes no memory.
     fn add(&mut self, row: Row, points: &[Pt])
         requires { Awaits self.old (row_with row points.now ∷ []) }
         ensures { Adds self.old (row_with row points.now ∷ []) self.new }
@@ -161,7 +160,7 @@ fn add_geometry(geometry: &Geometry, depth: u32, id: Option<i64>, pass: &mut Row
 }
 
 /// The length in bytes of the canonical blob, in full style, of a geometry, which must be within
-/// `Limits::largest()`. Reads each point once, whatever the nesting. Takes no memory.
+/// `Limits::largest()`. Takes no memory.
 pub fn measure(geometry: &Geometry) -> u64
     requires { IsValid largest_limits geometry.now }
     ensures { result ≡ length (canonical_blob Full geometry.now) }

@@ -17,8 +17,8 @@ pub(crate) struct MemberList {
 }
 
 // Puts the ids of the nodes one level below `at`, which must be a node of `flat`, in order, each as
-// the shortest varint of its zigzag form, and nothing for a node without one. Reads each of them
-// once.
+// the shortest varint of its zigzag form, and nothing for a node without one. Counts at most as
+// many reads of nodes as there are of these.
 pub(crate) fn put_ids<S: Sink>(
     flat: &Flat,
     at: &PlacedNode,
@@ -38,8 +38,8 @@ pub(crate) fn put_ids<S: Sink>(
     }
 }
 
-// The number of nodes one level below `at`, which must be a node of `flat`. Reads each of them
-// once.
+// The number of nodes one level below `at`, which must be a node of `flat`. Counts at most as many
+// reads of nodes as there are of these.
 pub(crate) fn count_members(flat: &Flat, at: &PlacedNode, work: &mut Work) -> u32
     requires { IsNode flat.now at.now.id.0 at.now.node }
     ensures count { result ≡ length (members_of flat.now at.now) }

@@ -12,14 +12,14 @@ use crate::job::{Job, PlacedNode};
 use crate::members::{MemberList, count_members, put_ids};
 use crate::points::put_points;
 use crate::sizes::Entry;
-use twkb_flat::laws::reads_fit;
-use twkb_flat::{Flat, NodeId, Work};
+use twkb_flat::{Flat, NodeId, Work, reads_fit};
 use twkb_io::Sink;
 use twkb_points::Cursor;
 use twkb_tree::Kind;
 
 // Puts the count of members, and the ids of the node's members if `members.named` is true. `at`
-// must be a node of `flat`. Reads each member once if ids are put, else none.
+// must be a node of `flat`. Counts at most as many reads of nodes as the node has members if ids
+// are put, else none.
 fn put_members<S: Sink>(
     flat: &Flat,
     at: &PlacedNode,
@@ -40,7 +40,8 @@ fn put_members<S: Sink>(
 
 // Puts the counts and ids of a node, which come before its points: nothing for a point, the count
 // of points for a linestring or ring, else the count of members or rings and, if `members.named` is
-// true, their ids. `at` must be a node of `flat`. Reads each member at most once.
+// true, their ids. `at` must be a node of `flat`. Counts at most as many reads of nodes as the node
+// has members if `members.named` is true, else none.
 #[inline(always)]
 fn put_counts<S: Sink>(
     flat: &Flat,
@@ -66,7 +67,7 @@ fn put_counts<S: Sink>(
 
 // Puts the bytes between a geometry's header and the points of its own row: its count, if its kind
 // has one, and the ids of its members, if they have any; nothing if it has no body. `at` must be a
-// node of `flat`. Reads each member at most once.
+// node of `flat`. Counts at most as many reads of nodes as the node has members.
 #[inline(always)]
 fn put_own<S: Sink>(
     flat: &Flat,
@@ -90,7 +91,8 @@ fn put_own<S: Sink>(
 }
 
 // Puts the bytes of a component of a geometry before its points: its count of points or rings, or
-// nothing for a point. `at` must be a node of `flat`. Reads each ring once.
+// nothing for a point. `at` must be a node of `flat`. Counts at most as many reads of nodes as the
+// node has rings.
 #[inline(always)]
 fn put_component<S: Sink>(
     flat: &Flat,
@@ -137,7 +139,8 @@ fn start_of_points(precision: Option<i8>, start: RowStart) -> RowStart
 
 // Puts the bytes of a row before its points: for a geometry itself, whose entry must be at index
 // `entry`, its header, and its count and ids if it has them; for a component its count if it has
-// one. `at` must be a node of `job.flat`. Reads each of its members at most once.
+// one. `at` must be a node of `job.flat`. Counts at most as many reads of nodes as the node has
+// members.
 #[inline(always)]
 fn put_lead<S: Sink>(
     job: &Job<'_>,
@@ -163,8 +166,8 @@ fn put_lead<S: Sink>(
 }
 
 // Puts the bytes of all rows of the form in preorder, in one pass, but begins no row after the sink
-// has refused a put. There must be an entry for each geometry. Reads each node at most twice and
-// each point at most once.
+// has refused a put. There must be an entry for each geometry. Counts at most twice as many reads
+// of nodes as there are nodes, and at most as many of points as there are points.
 pub(crate) fn put_rows<S: Sink>(
     job: &Job<'_>,
     gatherer: &mut Gatherer<'_, '_, '_, S, S::Fault>,

@@ -18,8 +18,9 @@ use twkb_io::Sink;
 
 /// Writes the canonical blob of a flat form in a style; `sizes` must be its sizes in that style.
 /// Without rows it returns `Ok`, and the sink gets nothing; after an `Err` the sink got a prefix of
-/// the blob. Counts only reads: each point at most once, each node at most twice. The bytes go
-/// through the piece, whatever it holds. Takes no memory itself.
+/// the blob. Counts only reads: on `Ok` at most as many of points as there are points, and at most
+/// twice as many of nodes as there are nodes. The bytes go through the piece, whatever it holds.
+/// Takes no memory itself.
 pub fn write_through<S: Sink>(
     flat: &Flat,
     style: Style,
@@ -61,8 +62,8 @@ pub fn write_through<S: Sink>(
 
 /// Writes the canonical blob of a flat form in a style; `sizes` must be its sizes in that style.
 /// Without rows it returns `Ok`, and the sink gets nothing; after an `Err` the sink got a prefix of
-/// the blob. Counts only reads: each point at most once, each node at most twice. Takes no memory
-/// itself.
+/// the blob. Counts only reads: on `Ok` at most as many of points as there are points, and at most
+/// twice as many of nodes as there are nodes. Takes no memory itself.
 pub fn write_flat<S: Sink>(
     flat: &Flat,
     style: Style,

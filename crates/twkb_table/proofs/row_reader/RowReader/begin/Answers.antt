@@ -1,28 +1,32 @@
-use Rattle.std.proofs.Common.{[], refl, ap, sym, ◌∙◌}
-use Rattle.twkb_flat.specs.Rows.{row_with}
-use Rattle.twkb_table.specs.Waiting.{root_row, waiting_rows}
-use Rattle.twkb_tree.proofs.LimitLaws.{continues_largest}
-use Rattle.twkb_table.proofs.RowReaderLemmas.{waiting_begins, keeps_first}
+use Rattle.std.proofs.Common.{sym, ◌∙◌}
+use Rattle.csv.specs.Records.{fields_of}
+use Rattle.twkb_table.proofs.RootLemmas.{has_root, in_record, waits_alone}
+use Rattle.twkb_table.proofs.RowReaderLemmas.{if_refused}
 use Rattle.twkb_table.proofs.row_reader.RowReader.begin.Goals as goal
 
-pub begin-requires : goal.begin-requires
-begin-requires c =
-    let old = c.args.self.now in
-    continues_largest old.limits [] _ old.sound
-    (waiting_begins old.limits old.state c.in-Waiting.root old.points.items old.waits
-    c.in-Waiting.is)
+pub begin_kept-requires : goal.begin_kept-requires
+begin_kept-requires c = record {
+  waits = has_root c.args.self.now.state c.args.self.now.points.items (sym c.if-has_its_points.ensures);
+}
 
-pub returns-clause-put : goal.returns-clause-put
-returns-clause-put c = c.in_ok-begin.ensures.begun
-    ∙ ap (λ s. waiting_rows s c.args.self.now.points.items) (sym c.in-Waiting.is)
-
-pub returns-clause-keeps : goal.returns-clause-keeps
-returns-clause-keeps c =
+pub returns-in-Ok-clause-put : goal.returns-in-Ok-clause-put
+returns-in-Ok-clause-put c rows waits =
     let old = c.args.self.now in
-    let begins = waiting_begins old.limits old.state c.in-Waiting.root old.points.items old.waits
-    c.in-Waiting.is in
-    let row = row_with (root_row c.in-Waiting.root) old.points.items in (
-      keeps_first old.limits row c.begin.new.self c.open_row.new.self begins
-          c.in_ok-begin.ensures.begun (c.in_ok-open_row.ensures.opened old.points.items),
-      refl,
-    )
+    waits_alone old.limits old.state old.points.items (fields_of c.args.csv_record.now) rows waits
+    (has_root old.state old.points.items (sym c.if-has_its_points.ensures))
+    ∙ sym c.in-Ok.ensures.put
+
+pub returns-in-Ok-begin_decoded-clause-put : goal.returns-in-Ok-begin_decoded-clause-put
+returns-in-Ok-begin_decoded-clause-put c rows waits =
+    let old = c.args.self.now in
+    c.in-Ok-begin_decoded.ensures.put rows (in_record old.limits old.state old.points.items
+    (fields_of c.args.csv_record.now) rows (sym c.if-has_its_points.ensures)
+    c.requires.waits waits)
+
+pub returns-in-Err-begin_decoded-clause-memory : goal.returns-in-Err-begin_decoded-clause-memory
+returns-in-Err-begin_decoded-clause-memory c =
+    let old = c.args.self.now in
+    if_refused _ _ c.in-Err-begin_decoded.stop (λ reason none rows waits. none rows
+    (in_record old.limits old.state old.points.items (fields_of c.args.csv_record.now) rows
+    (sym c.if-has_its_points.ensures) c.requires.waits waits))
+    c.in-Err-begin_decoded.ensures.memory

@@ -1,4 +1,4 @@
-use Rattle.std.proofs.Common.{[], ◌∷◌, ap, sym, refl}
+use Rattle.std.proofs.Common.{[], ◌∷◌, ap, refl}
 use Rattle.std.proofs.lemmas.Result.{err_from_is_err_and}
 use Rattle.csv.specs.Records.{fields_of}
 use Rattle.twkb_tree.specs.Rows.{Row}
@@ -36,8 +36,8 @@ returns-clause-root c =
     let begins = begins_first old.limits (fields_of c.args.csv_record.now) row judged in
     record {
       row = row;
-      waits = ap (λ (r : Row). r ∷ []) (sym (root_is old.limits c.in_ok-row.row
-          c.judge.new.points.items begins));
+      waits = ap (λ (r : Row). r ∷ []) (root_is old.limits c.in_ok-row.row
+          c.judge.new.points.items begins);
       root = begins.1;
       judged = judged_alone old.limits (waiting old) (fields_of c.args.csv_record.now)
           (Accepted row) c.requires judged;

@@ -1,9 +1,9 @@
-use Rattle.std.proofs.Common.{ap, arith, length}
+use Rattle.std.proofs.Common.{[], ◌∷◌, ap, arith}
 use Rattle.csv.specs.Records.{fields_of}
-use Rattle.twkb_table.specs.RowReading.{waiting}
+use Rattle.twkb_table.specs.RowReading.{limits_of, waiting}
 use Rattle.twkb_table.specs.TableReading.{progress}
 use Rattle.twkb_table.specs.Waiting.{is_over}
-use Rattle.twkb_table.proofs.TableSteps.{none_shown, reads_end, reads_root, refusal_shown}
+use Rattle.twkb_table.proofs.TableSteps.{none_shown, reads_end, reads_root, refusal_shown, root_waits}
 use Rattle.twkb_table.proofs.table_reader.TableReader.next_root.Goals as goal
 
 pub returns-in-Ok-false : goal.returns-in-Ok-false
@@ -25,10 +25,11 @@ pub returns-in-Ok : goal.returns-in-Ok
 returns-in-Ok g c = (
   λ l told records given r. reads_root l g.R.Read.remaining told records given
       (waiting c.args.self.now.rows)
-      (progress c.args.self.now) r _ (fields_of c.next_record.new.last)
-      (rw c.in-Ok-true.field-0-test at c.in-Ok-true.ensures) c.read_root.ensures.limits
-      c.in-Ok.ensures.root,
-  (let one = ap length c.in-Ok.ensures.root.waits in omega (arith, one)),
+      (progress c.args.self.now) r _ (rw c.in-Ok-true.field-0-test at c.in-Ok-true.ensures)
+      c.read_root.ensures.limits c.in-Ok.ensures.root,
+  (root_waits (limits_of c.args.self.now.rows) c.read_root.new.self.state c.read_root.new.self.points.items
+      (fields_of c.next_record.new.last) (c.in-Ok.ensures.root.row ∷ []) 0 c.in-Ok.ensures.root.waits
+      (omega arith)).3,
 )
 
 pub returns-in-Err-read_root : goal.returns-in-Err-read_root

@@ -25,8 +25,7 @@ returns-in_err-next_record g c =
 
 pub returns-in-Ok : goal.returns-in-Ok
 returns-in-Ok g c = row_shown g.R.Read.remaining (progress c.args.self.now) _ c.args.flat.now
-    c.read_row.new.flat
-    (fields_of c.next_record.new.last) c.in-Ok.more c.requires.0.some
+    c.read_row.new.flat c.in-Ok.more c.requires.0.some
     (rw c.if-not-branch.false at c.in_ok-next_record.ensures) c.read_row.ensures.limits
     c.in-Ok.ensures.row
 

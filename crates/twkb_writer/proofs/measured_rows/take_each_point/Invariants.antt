@@ -4,7 +4,7 @@ use Rattle.twkb_points.specs.Point.{Point}
 use Rattle.twkb_writer.specs.Nodes.{ReadsExactly}
 use Rattle.twkb_writer.specs.Totals.{tail_from, tail_of}
 use Rattle.twkb_writer.proofs.PutLemmas.{part}
-use Rattle.twkb_writer.proofs.measured_rows.take_points.Given as goal
+use Rattle.twkb_writer.proofs.measured_rows.take_each_point.Given as goal
 
 abbrev pub invariant-loop-pair : goal.invariant-loop-pair
 invariant-loop-pair g l =

@@ -1,6 +1,6 @@
 use Rattle.std.proofs.Common.{◌+◌, ◌-◌, ◌*◌, ◌∙◌, arith}
 use Rattle.twkb_writer.proofs.PutLemmas.{tail_last, tail_two, tail_first, exactly_none, exactly_point, exactly_same}
-use Rattle.twkb_writer.proofs.measured_rows.take_points.Goals as goal
+use Rattle.twkb_writer.proofs.measured_rows.take_each_point.Goals as goal
 
 pub loop-pair-init : goal.loop-pair-init
 loop-pair-init g c =

@@ -1,7 +1,7 @@
 use Rattle.std.proofs.Common.{◌≡◌, ◌+◌, ◌-◌, ◌≤◌, take, drop}
 use Rattle.twkb_writer.specs.Bytes.{way_bytes, way_end, Progress}
 use Rattle.twkb_writer.specs.Nodes.{ReadsExactly}
-use Rattle.twkb_writer.proofs.points.put_points.Given as goal
+use Rattle.twkb_writer.proofs.points.put_each_point.Given as goal
 
 abbrev pub invariant-loop-index : goal.invariant-loop-index
 invariant-loop-index g l =

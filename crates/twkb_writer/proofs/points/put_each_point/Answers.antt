@@ -2,7 +2,7 @@ use Rattle.std.proofs.Common.{◌∙◌, ◌+◌, ◌-◌, sym, ap, arith}
 use Rattle.twkb_writer.specs.Bytes.{way_bytes, way_end}
 use Rattle.twkb_writer.proofs.PutLemmas.{begun, step, finished, part_more, part_two, way_two, whole_part}
 use Rattle.twkb_writer.proofs.PutLemmas.{nothing_left, exactly_none, exactly_point, exactly_same}
-use Rattle.twkb_writer.proofs.points.put_points.Goals as goal
+use Rattle.twkb_writer.proofs.points.put_each_point.Goals as goal
 
 pub loop-index-init : goal.loop-index-init
 loop-index-init g c =
