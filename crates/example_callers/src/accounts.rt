@@ -17,8 +17,9 @@ pub struct Account {
     pub stopped: Option<Cause>,
 }
 
-/// Packs a table, and returns an account of what was done and sent, and of why it stopped, in
-/// place of a report or a fault. Takes memory for one record and one geometry.
+/// Packs a table, and returns an account of what was done and sent, and of why it stopped, in place
+/// of a report or a fault. Takes memory as `pack` does: for one record, one geometry, and the
+/// points of the record after it: up to 8 MiB, or all if that geometry is a single point.
 pub fn pack_table<R: Read, W: Write>(
     alloc: Global,
     table: &mut Tap<R>,

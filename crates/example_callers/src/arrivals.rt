@@ -29,7 +29,9 @@ pub fn count_arrivals<R: Read>(alloc: Global, socket: &mut R) -> Result<Arrived,
     count_by(&mut session, socket)
 }
 
-// Reads a socket to its end through a session at the start of a stream.
+// Reads a socket to its end through a session at the start of a stream, and returns the numbers of
+// its stream's geometries and bytes. An `Err` is the fault of a read or of the stream. Takes memory
+// for the rows of the open geometry.
 fn count_by<R: Read>(session: &mut Session, socket: &mut R) -> Result<Arrived, BlobFault>
     requires stands { Stands [] [] session.old }
     requires limits { session_limits session.old ≡ standard_limits }

@@ -25,8 +25,6 @@ use Rattle.twkb_grammar.proofs.OneFault.{no_fault}
 use Rattle.twkb_grammar.proofs.NotedSpans.{one_list}
 use Rattle.twkb_grammar.proofs.Streams.{blob_long, stream_or_fault}
 
--- ==== What an output and its devices are left like, before and after the flush.
-
 -- ==== Blobs with their spans, one after another.
 
 -- located blobs without their spans are a stream
@@ -271,22 +269,23 @@ flushes_before failed sending (inr (inr (fresh, refused, is))) =
 -- ---- what is reported
 
 -- a report is that of an answer that is not a stop
-pub reports_ok : (geometries bytes : ℕ) (report : Report) (answer : Result (Unit {0}) Cause)
-    → Ok report ≡ reported geometries bytes answer
-    → (answer ≡ Ok tt) × (report ≡ record { geometries = geometries; bytes = bytes })
-reports_ok geometries bytes report (Ok done) is = (refl, cc is)
-reports_ok geometries bytes report (Err why) is = absurd (cc is)
+pub reports_ok : (geometries bytes taken : ℕ) (report : Report) (answer : Result (Unit {0}) Cause)
+    → Ok report ≡ reported geometries bytes taken answer
+    → (answer ≡ Ok tt) × (report ≡ record { geometries = geometries; bytes = bytes; taken = taken })
+reports_ok geometries bytes taken report (Ok done) is = (refl, cc is)
+reports_ok geometries bytes taken report (Err why) is = absurd (cc is)
 
 -- a fault is that of a stop, with its cause
-pub reports_err : (geometries bytes : ℕ) (fault : ConvertFault) (answer : Result (Unit {0}) Cause)
-    → Err fault ≡ reported geometries bytes answer
-    → (answer ≡ Err fault.cause) × (fault ≡ record { done = geometries; sent = bytes; cause = fault.cause })
-reports_err geometries bytes fault (Ok done) is = absurd (cc is)
-reports_err geometries bytes fault (Err why) is =
-    let same : fault ≡ record { done = geometries; sent = bytes; cause = why } = cc is in
+pub reports_err : (geometries bytes taken : ℕ) (fault : ConvertFault) (answer : Result (Unit {0}) Cause)
+    → Err fault ≡ reported geometries bytes taken answer
+    → (answer ≡ Err fault.cause)
+    × (fault ≡ record { done = geometries; sent = bytes; taken = taken; cause = fault.cause })
+reports_err geometries bytes taken fault (Ok done) is = absurd (cc is)
+reports_err geometries bytes taken fault (Err why) is =
+    let same : fault ≡ record { done = geometries; sent = bytes; taken = taken; cause = why } = cc is in
     let cause_is : fault.cause ≡ why = ap (λ (f : ConvertFault). f.cause) same in (
       ap (λ w. Err w) (sym cause_is),
-      same ∙ ap (λ w. record { done = geometries; sent = bytes; cause = w }) (sym cause_is),
+      same ∙ ap (λ w. record { done = geometries; sent = bytes; taken = taken; cause = w }) (sym cause_is),
     )
 
 -- a fact about a report, from what holds if there is one
@@ -399,7 +398,7 @@ record ShowsAll (l : Allowance) (bytes text : List ℕ) : Type 0 where
   lines : text ≡ lines_text found
 
 -- blobs of the same geometries have the same bytes
-one_front : (l : Allowance) (a b x y : List ℕ) (gs : List Tree) → Stream l a gs → Stream l b gs
+pub one_front : (l : Allowance) (a b x y : List ℕ) (gs : List Tree) → Stream l a gs → Stream l b gs
     → a ++ x ≡ b ++ y → a ≡ b
 one_front l a b x y [] s t e = s ∙ sym t
 one_front l a b x y (g ∷ gs) s t e =

@@ -3,4 +3,5 @@ pub mod SendingLemmas
 pub mod FlushLemmas
 pub mod RoundTrips
 pub mod ListingLemmas
-pub mod TableListed
+pub mod TreesListed
+pub mod CollectionLemmas

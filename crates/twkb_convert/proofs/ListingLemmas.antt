@@ -3,13 +3,16 @@ use Rattle.std.specs.Prelude.{map, ◌/◌, ◌%◌}
 use Rattle.std.proofs.lemmas.List.{nil_from_length}
 use Rattle.std.proofs.lemmas.Grind.{flat_map-append}
 use Rattle.std.specs.Fmt.{digit_glyph}
+use Rattle.std.specs.Int.{cast_unsigned, w8}
+use Rattle.std.proofs.Common.{pos}
+use Rattle.twkb_grammar.specs.Roles.{type_byte, type_of}
 use Rattle.std.specs.Io.KnownBytes.{prepend_known}
 use Rattle.std.proofs.KnownBytes.{Consumes-nil, Consumes-trans}
 use Rattle.twkb_io.specs.Inputs.{unused}
 use Rattle.twkb_io.specs.Taps.{has_unflushed}
 use Rattle.twkb_io.specs.declared.input.InFault.TheVariants as input
 use Rattle.twkb_io.specs.declared.TheConstants.{MAX_BYTES}
-use Rattle.twkb_tree.specs.Tree.{Tree}
+use Rattle.twkb_tree.specs.Tree.{Tree, IsTree}
 use Rattle.twkb_tree.specs.Rows.{rows, rows_of, Row}
 use Rattle.twkb_grammar.specs.Noting.{spans_of_blob}
 use Rattle.twkb_grammar.specs.declared.span.Span.{Span}
@@ -24,14 +27,17 @@ use Rattle.twkb_blob.specs.declared.fault.BlobFault.TheVariants as blob
 use Rattle.twkb_table.specs.Record.{header, record_of}
 use Rattle.twkb_table.specs.Text.{csvtext, joined}
 use Rattle.twkb_table.proofs.Verdicts.{records-append}
-use Rattle.twkb_convert.specs.Outputs.{rows_text, table_text, Finishes, Flushes, IsFlushed, UnlessRefused, reported}
-use Rattle.twkb_convert.specs.Listings.{table_layout, lines_layout, hex_of, span_lines}
+use Rattle.twkb_convert.specs.Outputs.{rows_text, table_text, geojson_text, Finishes, Flushes, IsFlushed}
+use Rattle.twkb_convert.specs.Outputs.{UnlessRefused, reported}
+use Rattle.twkb_geojson.specs.Value.{line_of}
+use Rattle.twkb_convert.specs.Listings.{table_layout, geojson_layout, spans_layout, hex_of}
 use Rattle.twkb_convert.specs.Listed.{EndsBlobs, Follows, GivesText, IsBetween, Misses, MissesText, RefusesBlob}
 use Rattle.twkb_convert.specs.Listed.{given, is_input_spent, is_read, limits_of, reader_failures, rest_of, told_of}
 use Rattle.twkb_convert.specs.Listed.{GivesBlob, Used, reader_tap, ExplainsListingCause, Listed, StoppedListing}
 use Rattle.twkb_convert.specs.Causes.{cause_of_blob, cause_of_output, is_write, cause_words}
 use Rattle.twkb_convert.specs.declared.report.Cause.TheVariants as cause
 use Rattle.twkb_convert.specs.BlobsListed.{Ends, IsFresh, Lists, SentSoFar}
+use Rattle.twkb_convert.proofs.Prelude.{TakesBlobs}
 use Rattle.twkb_convert.proofs.Prelude.{◌≡◌, ◌∙◌, ◌+◌, ◌-◌, ◌<◌, ℕ, Bool, false, List, [], ◌∷◌, ◌++◌, Option, Some}
 use Rattle.twkb_convert.proofs.Prelude.{None, Result, Ok, Err, IfSome, length, ap, arith, refl, sym, subst, inl, inr}
 use Rattle.twkb_convert.proofs.Prelude.{append_assoc, length-append, append-nil, Consumes, IsAtEnd, Ghosts}
@@ -42,12 +48,10 @@ use Rattle.twkb_convert.proofs.Prelude.{device_of, failures_of, is_spent, output
 use Rattle.twkb_convert.proofs.Prelude.{geometries_of, IsDeviceCause, ConvertFault, Report, IfErr, IfOk}
 use Rattle.twkb_convert.proofs.FlushLemmas.{explained, put_explained, told_missed, told_put, leaves_refused}
 use Rattle.twkb_convert.proofs.FlushLemmas.{leaves_took, flushed_last, leaves_last, reports_err, reports_ok, when_err}
-use Rattle.twkb_convert.proofs.FlushLemmas.{when_ok, located-append, located-one}
+use Rattle.twkb_convert.proofs.FlushLemmas.{when_ok, located-append, located-one, located-stream, one_front}
 use Rattle.std.proofs.Common.{◌≤◌}
 use Rattle.twkb_table.proofs.FaultLaws.{short_row}
 use Rattle.twkb_engine.proofs.Parts.{short_blob}
-
--- ==== The text of a stream's blobs, joined from their parts, and the exits of the loop over them.
 
 -- ==== Texts of rows, joined.
 
@@ -95,6 +99,11 @@ pub table_of_blobs : (bs : List Located) → listing_text table_layout bs ≡ ta
 table_of_blobs bs =
     ap (λ t. csvtext (header ∷ []) ++ t) (rows_of_blobs bs) ∙ table_text-rows (geometries_of bs)
 
+-- the lines of blobs are those of their geometries
+pub geojson_of_blobs : (bs : List Located) → listing_text geojson_layout bs ≡ geojson_text (geometries_of bs)
+geojson_of_blobs [] = refl
+geojson_of_blobs (b ∷ bs) = ap (λ t. line_of b.geometry ++ t) (geojson_of_blobs bs)
+
 -- ==== The text of one blob, from the parts that were appended.
 
 -- the seven words of a line, each appended with the byte after it, except that the space after
@@ -116,6 +125,21 @@ hex_put old first both new byte high low space =
     space ∙ ap (λ (t : List ℕ). t ++ 32 ∷ []) (low ∙ ap (λ (t : List ℕ). t ++ digit_glyph true (byte % 16) ∷ []) high)
     ∙ append_assoc (old ++ digit_glyph true (byte / 16) ∷ []) (digit_glyph true (byte % 16) ∷ []) (32 ∷ [])
     ∙ append_assoc old (digit_glyph true (byte / 16) ∷ []) (digit_glyph true (byte % 16) ∷ 32 ∷ [])
+
+-- five parts, each appended to those before it
+pub parts_put : (a b c d e none one two three four five : List ℕ) → none ≡ [] → one ≡ none ++ a → two ≡ one ++ b
+    → three ≡ two ++ c → four ≡ three ++ d → five ≡ four ++ e → five ≡ a ++ (b ++ (c ++ (d ++ e)))
+parts_put a b c d e none one two three four five p q r s t u =
+    let whole : five ≡ (((([] ++ a) ++ b) ++ c) ++ d) ++ e = cc in
+    whole ∙ simp (append_assoc)
+
+-- the last four bytes of a header: at precision 0 a type byte is the number of its type
+pub last_put : (s : Span) (old new : List ℕ) (kind precision : ℕ) → kind ≡ type_byte s.kind (pos 0)
+    → precision ≡ cast_unsigned w8 s.precision → new ≡ old ++ kind ∷ precision ∷ s.metadata ∷ 0 ∷ []
+    → new ≡ old ++ type_of s.kind ∷ cast_unsigned w8 s.precision ∷ s.metadata ∷ 0 ∷ []
+last_put s old new kind precision is signed put =
+    put ∙ ap (λ n. old ++ n ∷ precision ∷ s.metadata ∷ 0 ∷ []) (omega (arith, is))
+    ∙ ap (λ n. old ++ type_of s.kind ∷ n ∷ s.metadata ∷ 0 ∷ []) signed
 
 -- the bytes left are refused
 refused_left : (limits : Allowance) (before : ℕ) (rest : Option (List ℕ)) (offset : ℕ)
@@ -140,7 +164,7 @@ told_none (Some xs) (Some ys) held end loses =
 
 module _ {R : Type 0} {read : Ghosts R} (from to : Reader R read) where
   -- the reader keeps its tap and its limits
-  follows : (answer : Result Bool BlobFault) (failed : Bool) → failed_by_read answer ≡ failed
+  pub follows : (answer : Result Bool BlobFault) (failed : Bool) → failed_by_read answer ≡ failed
       → ReadsNext false from to answer → Follows from to failed
   follows answer failed is shared = record {
     same_tap = shared.same_tap;
@@ -187,7 +211,7 @@ module _ {R : Type 0} {read : Ghosts R} (from to : Reader R read) where
       }
 
   -- the reader is between two blobs after one was read
-  between : ReadsNext false from to (Ok true) → is_input_spent to ≡ false → IsBetween to
+  pub between : ReadsNext false from to (Ok true) → is_input_spent to ≡ false → IsBetween to
   between shared live = record { fresh = shared.stays; going_on = shared.going_on (λ e. cc e); input = live }
 
   -- the rows of a geometry, from its flat form
@@ -207,10 +231,28 @@ module _ {R : Type 0} {read : Ghosts R} (from to : Reader R read) where
         between = between reads.shared made.unspent;
       }
 
-  -- the lines of a blob, from its spans
-  pub lines_given : (rs : List Row) (spans : List Span) (text : List ℕ) → IsBetween from
-      → ReadsSpans from to (Ok true) rs spans → text ≡ span_lines spans → GivesText lines_layout from to text
-  lines_given rs spans text ready reads own =
+  -- the line of a geometry, from its flat form
+  pub geojson_given : (rs : List Row) (text : List ℕ) → IsBetween from → ReadsRows from to (Ok true) rs
+      → ((g : Tree) → IsTree g → rows 0 g ≡ rs → text ≡ line_of g) → GivesText geojson_layout from to text
+  geojson_given rs text ready reads own =
+      let (g, made, are) = reads.next ready.fresh ready.going_on in
+      record {
+        found = record { geometry = g; spans = spans_of_blob (given from) made.blob };
+        gives = record {
+          front = made.bytes;
+          tells = record { blob = made.blob; told = refl };
+          used = record { consumed = made.left.consumed; counted = made.left.counted };
+        };
+        own = own g made.blob.valid.tree (sym are);
+        follows = follows (Ok true) false refl reads.shared;
+        between = between reads.shared made.unspent;
+      }
+
+  -- the text of a blob, from its spans
+  pub spans_given : (text_of : List Span → List ℕ) (rs : List Row) (spans : List Span) (text : List ℕ)
+      → IsBetween from → ReadsSpans from to (Ok true) rs spans → text ≡ text_of spans
+      → GivesText (spans_layout text_of) from to text
+  spans_given text_of rs spans text ready reads own =
       let (g, has, rows) = reads.next ready.fresh ready.going_on in
       record {
         found = record { geometry = g; spans = spans };
@@ -302,9 +344,9 @@ follows_on first second = record {
 module _ {R W : Type 0} {read : Ghosts R} {layout : Layout} {contents : W → Option (List ℕ)}
     {from : Reader R read} {old : Output W} where
   -- the text before the first blob was sent
-  pub sent_first : {new : Output W} {done : ℕ} → done ≡ 0 → IsFresh from old
-      → Took contents old layout.first new → SentSoFar layout contents from old from new done
-  sent_first {new = new} none fresh took = record {
+  pub sent_first : {new : Output W} {done taken : ℕ} → done ≡ 0 → taken ≡ 0 → IsFresh from old
+      → Took contents old layout.first new → SentSoFar layout contents from old from new done taken
+  sent_first {new = new} none nothing fresh took = record {
     found = [];
     bytes = [];
     blobs = refl;
@@ -315,13 +357,14 @@ module _ {R W : Type 0} {read : Ghosts R} {layout : Layout} {contents : W → Op
     between = fresh.between;
     unspent = took.spent ∙ fresh.unspent;
     few = omega (arith, none);
+    taken_is = nothing ∙ sym fresh.unread;
   }
 
   -- the text before the first blob was not sent whole
-  pub lists_none : {new : Output W} {done : ℕ} {text : List ℕ} {f : OutFault} → done ≡ 0
+  pub lists_none : {new : Output W} {done taken : ℕ} {text : List ℕ} {f : OutFault} → done ≡ 0 → taken ≡ 0
       → text ≡ layout.first → IsFresh from old → Cut contents old text f new
-      → Lists layout contents from old from new done (Err (cause_of_output f))
-  lists_none {f = f} none own fresh cut =
+      → Lists layout contents from old from new done taken (Err (cause_of_output f))
+  lists_none {f = f} none nothing own fresh cut =
       let whole = append-nil layout.first ∙ sym own in
       record {
         text = cut.front;
@@ -338,6 +381,7 @@ module _ {R W : Type 0} {read : Ghosts R} {layout : Layout} {contents : W → Op
         };
         leaves = leaves_refused cut.refused;
         count = none;
+        takes = record { front = []; rest = []; cut = refl; blobs = refl; taken_is = nothing };
         read_failed = false;
         follows = record { same_tap = refl; limits = refl; failures = refl; within = from.input.within };
         ends = record {
@@ -348,9 +392,13 @@ module _ {R W : Type 0} {read : Ghosts R} {layout : Layout} {contents : W → Op
         };
       }
 
-  module _ {mid : Reader R read} {out : Output W} {done : ℕ}
-      (sent : SentSoFar layout contents from old mid out done)
+  module _ {mid : Reader R read} {out : Output W} {done taken : ℕ}
+      (sent : SentSoFar layout contents from old mid out done taken)
     where
+      -- the bytes of the blobs so far are those taken
+      all_taken : taken ≡ length sent.bytes
+      all_taken = omega (arith, sent.taken_is, sent.used.counted)
+
       -- one more blob was read
       one_read : {to : Reader R read} {text : List ℕ} (one : GivesText layout mid to text)
           → LocatedStream (limits_of from) 0 (sent.bytes ++ one.gives.front)
@@ -362,7 +410,7 @@ module _ {R W : Type 0} {read : Ghosts R} {layout : Layout} {contents : W → Op
       -- the text of one more blob was sent
       pub sent_more : {to : Reader R read} {new : Output W} {text : List ℕ}
           → GivesText layout mid to text → Took contents out text new
-          → SentSoFar layout contents from old to new (done + 1)
+          → SentSoFar layout contents from old to new (done + 1) (given to)
       sent_more {new = new} one took = record {
         found = sent.found ++ one.found ∷ [];
         bytes = sent.bytes ++ one.gives.front;
@@ -375,12 +423,13 @@ module _ {R W : Type 0} {read : Ghosts R} {layout : Layout} {contents : W → Op
         between = one.between;
         unspent = took.spent ∙ sent.unspent;
         few = omega (arith, sent.few, given_more one.gives);
+        taken_is = refl;
       }
 
       -- a prefix of the text of one more blob was sent
       pub lists_cut : {to : Reader R read} {new : Output W} {text : List ℕ} {fault : OutFault}
           → sent_of old ≡ 0 → GivesText layout mid to text → Cut contents out text fault new
-          → Lists layout contents from old to new done (Err (cause_of_output fault))
+          → Lists layout contents from old to new done taken (Err (cause_of_output fault))
       lists_cut {to = to} {new = new} {fault = fault} none one refused_text =
           let cut : Cut contents out (layout.text_of one.found) fault new = rw one.own at
           refused_text in
@@ -403,6 +452,13 @@ module _ {R W : Type 0} {read : Ghosts R} {layout : Layout} {contents : W → Op
             leaves = leaves_refused (refused_join contents old out new _ cut.front fault sent.took
                 cut.refused);
             count = sent.count;
+            takes = record {
+              front = sent.bytes;
+              rest = one.gives.front;
+              cut = refl;
+              blobs = sent.blobs;
+              taken_is = all_taken;
+            };
             read_failed = false;
             follows = follows_on sent.follows one.follows;
             ends = record {
@@ -426,7 +482,7 @@ module _ {R W : Type 0} {read : Ghosts R} {layout : Layout} {contents : W → Op
       lists_whole : {to : Reader R read} {failed : Bool} (answer : Result (Unit {0}) Cause)
           → Follows mid to failed → is_write answer ≡ false
           → Ends layout from to sent.bytes sent.found [] [] failed answer
-          → Lists layout contents from old to out done answer
+          → Lists layout contents from old to out done taken answer
       lists_whole {failed = failed} answer follows quiet ends =
           let text = listing_text layout sent.found in
           record {
@@ -444,6 +500,13 @@ module _ {R W : Type 0} {read : Ghosts R} {layout : Layout} {contents : W → Op
             };
             leaves = leaves_took answer sent.took (sym sent.took.spent ∙ sent.unspent) quiet;
             count = sent.count;
+            takes = record {
+              front = sent.bytes;
+              rest = [];
+              cut = sym (append-nil sent.bytes);
+              blobs = sent.blobs;
+              taken_is = all_taken;
+            };
             read_failed = failed;
             follows = follows_on sent.follows follows;
             ends = ends;
@@ -451,7 +514,7 @@ module _ {R W : Type 0} {read : Ghosts R} {layout : Layout} {contents : W → Op
 
       -- the end was found
       pub lists_all : {to : Reader R read} → EndsBlobs mid to
-          → Lists layout contents from old to out done (Ok tt)
+          → Lists layout contents from old to out done taken (Ok tt)
       lists_all {to = to} ends = lists_whole (Ok tt) ends.follows refl (record {
         no_later = refl;
         none_left = refl;
@@ -463,7 +526,7 @@ module _ {R W : Type 0} {read : Ghosts R} {layout : Layout} {contents : W → Op
 
       -- the text of the next blob was not made
       pub lists_up_to : {to : Reader R read} {why : Cause} → MissesText mid to why
-          → Lists layout contents from old to out done (Err why)
+          → Lists layout contents from old to out done taken (Err why)
       lists_up_to {to = to} {why = why} missed =
           let misses : Misses (limits_of from) (rest_of mid) (given mid) (told_of to) why =
           subst (λ l. Misses l (rest_of mid) (given mid) (told_of to) why) sent.follows.limits missed.misses in
@@ -485,9 +548,9 @@ wrote true = refl
 
 -- what was sent, after the flush
 pub lists_last : {R W : Type 0} {read : Ghosts R} {layout : Layout} {contents : W → Option (List ℕ)}
-    {from to : Reader R read} {old mid new : Output W} {done : ℕ}
-    {answer last : Result (Unit {0}) Cause} → Lists layout contents from old to mid done answer
-    → Flushes contents mid answer new last → Lists layout contents from old to new done last
+    {from to : Reader R read} {old mid new : Output W} {done taken : ℕ}
+    {answer last : Result (Unit {0}) Cause} → Lists layout contents from old to mid done taken answer
+    → Flushes contents mid answer new last → Lists layout contents from old to new done taken last
 lists_last {layout = layout} {from = from} {to = to} {answer = answer} {last = last} lists flushes =
     let after = leaves_last lists.leaves flushes in
     record {
@@ -495,6 +558,7 @@ lists_last {layout = layout} {from = from} {to = to} {answer = answer} {last = l
       part = lists.part;
       leaves = after.0;
       count = lists.count;
+      takes = lists.takes;
       read_failed = lists.read_failed;
       follows = lists.follows;
       ends = ends after.1;
@@ -507,9 +571,9 @@ lists_last {layout = layout} {from = from} {to = to} {answer = answer} {last = l
     ends (inr write) = rw write (record { explains = tt; tell = wrote lists.read_failed })
 
 -- what is flushed at the end
-module _ {W : Type 0} {contents : W → Option (List ℕ)} {mid new : Output W} {done : ℕ}
+module _ {W : Type 0} {contents : W → Option (List ℕ)} {mid new : Output W} {done taken : ℕ}
     {sending : Result (Unit {0}) Cause} {report : Result Report ConvertFault}
-    (finishes : Finishes contents mid done sending new report)
+    (finishes : Finishes contents mid done taken sending new report)
     (unspent : UnlessRefused sending (is_spent mid ≡ false)) (written : Tap W)
     (closes : (output_tap new).now ≡ written) where
   held : (answer : Result (Unit {0}) Cause) → finishes.answer ≡ answer
@@ -518,10 +582,10 @@ module _ {W : Type 0} {contents : W → Option (List ℕ)} {mid new : Output W} 
       (subst (λ a. UnlessRefused a (has_unflushed (output_tap new).now ≡ false)) is
       (flushed_last finishes.flushes unspent))
 
-  flushed_as : (r : Result Report ConvertFault) → r ≡ reported done (sent_of new) finishes.answer
+  flushed_as : (r : Result Report ConvertFault) → r ≡ reported done (sent_of new) taken finishes.answer
       → IsFlushed r written
-  flushed_as (Ok r) is = held (Ok tt) (reports_ok done (sent_of new) r finishes.answer is).0
-  flushed_as (Err fault) is = held (Err fault.cause) (reports_err done (sent_of new) fault finishes.answer is).0
+  flushed_as (Ok r) is = held (Ok tt) (reports_ok done (sent_of new) taken r finishes.answer is).0
+  flushed_as (Err fault) is = held (Err fault.cause) (reports_err done (sent_of new) taken fault finishes.answer is).0
 
   pub flushed : IsFlushed report written
   flushed = flushed_as report finishes.reports
@@ -534,8 +598,22 @@ known_stream : (l : Allowance) (known : Option (List ℕ)) (bytes : List ℕ) (b
 known_stream l None bytes bs all blobs = tt
 known_stream l (Some whole) bytes bs all blobs = subst (λ b. LocatedStream l 0 b bs) (sym all) blobs
 
+-- the bytes of all blobs are those taken
+pub taken_whole : (l : Allowance) (bytes : List ℕ) (bs : List Located) (taken : ℕ) → LocatedStream l 0 bytes bs
+    → TakesBlobs (LocatedStream l 0) bytes bs taken → taken ≡ length bytes
+taken_whole l bytes bs taken blobs takes =
+    takes.taken_is ∙ ap length (one_front l takes.front bytes takes.rest [] (geometries_of bs)
+    (located-stream l 0 takes.front bs takes.blobs) (located-stream l 0 bytes bs blobs)
+    (sym takes.cut ∙ sym (append-nil bytes)))
+
+-- they are all bytes
+pub known_length : (known : Option (List ℕ)) (bytes : List ℕ) (taken : ℕ) → IfSome known (λ whole. whole ≡ bytes)
+    → taken ≡ length bytes → IfSome known (λ whole. taken ≡ length whole)
+known_length None bytes taken all is = tt
+known_length (Some whole) bytes taken all is = is ∙ ap length (sym all)
+
 -- no text is left after that of all blobs
-whole_text : (layout : Layout) (whole later : List Located) (text left : List ℕ)
+pub whole_text : (layout : Layout) (whole later : List Located) (text left : List ℕ)
     → listing_text layout (whole ++ later) ≡ text ++ left → later ≡ [] → left ≡ []
     → text ≡ listing_text layout whole
 whole_text layout whole later text left cut no_later none_left =
@@ -543,11 +621,11 @@ whole_text layout whole later text left cut no_later none_left =
     ∙ ap (λ bs. listing_text layout (whole ++ bs)) no_later ∙ ap (listing_text layout) (append-nil whole)
 
 module _ {R W : Type 0} {read : Ghosts R} {layout : Layout} {contents : W → Option (List ℕ)}
-    {l : Allowance} {from to : Reader R read} {old mid new : Output W} {done : ℕ}
+    {l : Allowance} {from to : Reader R read} {old mid new : Output W} {done taken : ℕ}
     {sending : Result (Unit {0}) Cause}
     {report : Result Report ConvertFault} (remaining : R → Option (List ℕ)) (reader after : Tap R)
-    (writer written : Tap W) (finishes : Finishes contents mid done sending new report)
-    (sends : Lists layout contents from old to mid done sending)
+    (writer written : Tap W) (finishes : Finishes contents mid done taken sending new report)
+    (sends : Lists layout contents from old to mid done taken sending)
     (limits : limits_of from ≡ l) (told : rest_of from ≡ remaining (device_of reader))
     (failures : reader_failures from ≡ failures_of reader)
     (borrowed : (output_tap old).now ≡ writer) (none : sent_of old ≡ 0)
@@ -569,13 +647,13 @@ module _ {R W : Type 0} {read : Ghosts R} {layout : Layout} {contents : W → Op
       ∙ ap (λ t. count_failure failed (failures_of t)) borrowed
 
   lists_with : (answer : Result (Unit {0}) Cause) → finishes.answer ≡ answer
-      → Lists layout contents from old to new done answer
+      → Lists layout contents from old to new done taken answer
   lists_with answer is = rw is at (lists_last sends finishes.flushes)
 
-  listed_as : (r : Report) → Ok r ≡ reported done (sent_of new) finishes.answer
+  listed_as : (r : Report) → Ok r ≡ reported done (sent_of new) taken finishes.answer
       → Listed (LocatedStream l 0) (listing_text layout) remaining contents reader writer r after written
   listed_as r is =
-      let (ok, same) = reports_ok done (sent_of new) r finishes.answer is in
+      let (ok, same) = reports_ok done (sent_of new) taken r finishes.answer is in
       let lists = lists_with (Ok tt) ok in
       let p = lists.part in
       let e = lists.ends in
@@ -592,6 +670,10 @@ module _ {R W : Type 0} {read : Ghosts R} {layout : Layout} {contents : W → Op
         geometries = ap (λ (q : Report). q.geometries) same ∙ lists.count;
         bytes = (let count = ap (λ (q : Report). q.bytes) same in
             omega (arith, count, lists.leaves.sends.sent, none, ap length text));
+        taken = subst (λ k. IfSome k (λ bytes. r.taken ≡ length bytes)) told
+            (known_length (rest_of from) p.bytes r.taken e.all
+            (ap (λ (q : Report). q.taken) same ∙ taken_whole l p.bytes p.whole taken blobs
+            (subst (λ a. TakesBlobs (LocatedStream a 0) p.bytes p.whole taken) limits lists.takes)));
         end = subst (λ k. IfSome k (λ bytes. IsAtEnd (remaining (device_of after)))) told
             (subst (λ t. IfSome (rest_of from) (λ bytes. IsAtEnd t)) later_told e.ended);
         reads = reads_as false (subst (λ f. reader_failures to ≡ count_failure f (reader_failures from))
@@ -599,11 +681,11 @@ module _ {R W : Type 0} {read : Ghosts R} {layout : Layout} {contents : W → Op
         writes = writes_as false lists.leaves.failures;
       }
 
-  stopped_as : (fault : ConvertFault) → Err fault ≡ reported done (sent_of new) finishes.answer
+  stopped_as : (fault : ConvertFault) → Err fault ≡ reported done (sent_of new) taken finishes.answer
       → StoppedListing (LocatedStream l 0) geometries_of (listing_text layout) l remaining contents
       reader writer fault after written
   stopped_as fault is =
-      let (stops, same) = reports_err done (sent_of new) fault finishes.answer is in
+      let (stops, same) = reports_err done (sent_of new) taken fault finishes.answer is in
       let lists = lists_with (Err fault.cause) stops in
       let p = lists.part in
       record {
@@ -623,6 +705,9 @@ module _ {R W : Type 0} {read : Ghosts R} {layout : Layout} {contents : W → Op
         done = ap (λ (f : ConvertFault). f.done) same ∙ lists.count;
         sent = (let count = ap (λ (f : ConvertFault). f.sent) same in
             omega (arith, count, lists.leaves.sends.sent, none));
+        taken = subst (λ a. TakesBlobs (LocatedStream a 0) p.bytes p.whole fault.taken) limits
+            (subst (λ n. TakesBlobs (LocatedStream (limits_of from) 0) p.bytes p.whole n)
+            (sym (ap (λ (f : ConvertFault). f.taken) same)) lists.takes);
         explains = subst (λ a. ExplainsListingCause geometries_of (listing_text layout) a
             (remaining (device_of reader)) (remaining (device_of after)) p.bytes fault.cause p.whole p.later p.left)
             limits

@@ -32,7 +32,7 @@ pub use Rattle.twkb_table.specs.RowFault.{Named, NamesNone, AreComplete, HasNoHe
 pub use Rattle.twkb_table.specs.CsvRecords.{AreRecordsOf, BeginWith, standing}
 pub use Rattle.twkb_table.specs.declared.reason.RowReason.{RowReason}
 pub use Rattle.twkb_convert.specs.Parts.{FrontOfBlobs, HoldsWhole, MayBeWritten, IsRefusedText, AreMovedLines}
-pub use Rattle.twkb_convert.specs.Parts.{PackApart, RowsName, all_moved}
+pub use Rattle.twkb_convert.specs.Parts.{PackApart, RowsName, TakesBlobs, all_moved, records_of}
 pub use Rattle.twkb_convert.specs.Outputs.{PackTextTo, PackTo, UnpackTo, rows_text, table_text, AtMostOneCut, IsTable}
 pub use Rattle.twkb_convert.specs.Listings.{LocatedStream, geometries_of, TellsSpans, BeginLocated, ShowTo}
 pub use Rattle.twkb_convert.specs.Listings.{lines_text, Layout, listing_text, blobs_text, span_lines}

@@ -4,18 +4,22 @@ use Rattle.csv.specs.Machine.{Read, next_record}
 use Rattle.csv.specs.declared.parser.Config.{Config}
 use Rattle.csv.specs.declared.parser.State.{State}
 use Rattle.csv.specs.declared.parser.State.TheVariants.{StartRecord}
+use Rattle.std.specs.Prelude.{drop}
+use Rattle.std.proofs.lemmas.List.{drop_at}
 use Rattle.twkb_tree.specs.Rows.{AreValid, AreGeometries}
 use Rattle.twkb_tree.proofs.LimitLaws.{valid_front}
 use Rattle.twkb_tree.proofs.RowLaws.{at_root, first_ended, below_root}
 use Rattle.twkb_grammar.proofs.Streams.{no_stream, one_stream, written_stream, behind_stream, fault-append}
 use Rattle.twkb_grammar.proofs.Streams.{stream-append, one_stream_fault, stream_or_fault}
+use Rattle.twkb_geojson.specs.Value.{line_of}
+use Rattle.twkb_convert.specs.Outputs.{TextTo, geojson_text}
 use Rattle.twkb_grammar.proofs.NotedSpans.{blob_moved}
 use Rattle.twkb_table.specs.TableReading.{NameSoFar}
 use Rattle.twkb_table.specs.Text.{BeginAtRoot}
 use Rattle.twkb_table.proofs.FaultLaws.{fault_none, later_none, one_complete, some_complete, named_or_fault}
 use Rattle.twkb_table.proofs.RowReaderLemmas.{text_read}
 use Rattle.twkb_table.proofs.Verdicts.{one_table as named_table, geometries, split, table_front, named_cut}
-use Rattle.twkb_table.proofs.Verdicts.{named_joined}
+use Rattle.twkb_table.proofs.Verdicts.{named_joined, records-append}
 use Rattle.twkb_table.proofs.FieldLemmas.{head_same, tail_same}
 use Rattle.twkb_table.proofs.TableSteps.{never_none}
 use Rattle.twkb_convert.proofs.Prelude.{◌≡◌, ◌∙◌, ℕ, List, [], ◌∷◌, None, ap, refl, sym, subst, inl, inr, Tree}
@@ -27,12 +31,11 @@ use Rattle.twkb_convert.proofs.Prelude.{Reason, canonical_blob, header, record_o
 use Rattle.twkb_convert.proofs.Prelude.{BeginWith, FrontOfBlobs, rows_text, MayBeWritten, ◌+◌, length, arith}
 use Rattle.twkb_convert.proofs.Prelude.{append_cancel_left, StreamFault, moved_span, csvtext, Located, BeginLocated}
 use Rattle.twkb_convert.proofs.Prelude.{LocatedStream, ShowTo, geometries_of, lines_text, AreMovedLines, PackApart}
+use Rattle.twkb_convert.proofs.Prelude.{◌≢◌, TakesBlobs, records_of}
 use Rattle.twkb_convert.proofs.Prelude.{RowsName, all_moved, span_lines, AreBytes, RowFault, IsRefusedText}
 use Rattle.twkb_convert.proofs.ListingLemmas.{table_text-append, table_text-rows}
 use Rattle.twkb_convert.proofs.FlushLemmas.{located-append, located-stream, Begins, each_other, fault_no_blob}
 use Rattle.twkb_convert.proofs.FlushLemmas.{located_first, one_shown, some_located_stream}
-
--- ==== Packing and unpacking give back what was put in, also in parts and in prefixes of an output.
 
 -- ==== Packing and unpacking give back what was put in.
 
@@ -382,6 +385,25 @@ unpacked_joined l a b gs first rows s out (inr (offset, reason, hs, f, e)) =
       texts_joined first rows gs hs (unpacked_stream l a first gs s out) e,
     )
 
+-- ---- streams as GeoJSON
+
+geojson_more : (lines : List ℕ) (gs hs : List Tree) → lines ≡ geojson_text hs
+    → geojson_text gs ++ lines ≡ geojson_text (gs ++ hs)
+geojson_more lines gs hs e = ap (λ k. geojson_text gs ++ k) e ∙ sym (flat_map-append line_of gs hs)
+
+pub geojson_joined : (l : Allowance) (a b : List ℕ) (gs : List Tree) (lines : List ℕ) → Stream l a gs
+    → TextTo geojson_text l b lines → TextTo geojson_text l (a ++ b) (geojson_text gs ++ lines)
+geojson_joined l a b gs lines s (inl (hs, t, e)) =
+    inl (gs ++ hs, stream-append l a b gs hs s t, geojson_more lines gs hs e)
+geojson_joined l a b gs lines s (inr (offset, reason, hs, f, e)) =
+    inr (
+      length a + offset,
+      reason,
+      gs ++ hs,
+      fault-append l a b gs hs offset reason s f,
+      geojson_more lines gs hs e,
+    )
+
 -- ---- streams as lines
 
 -- more bytes before a stream move its spans
@@ -463,9 +485,6 @@ shown_joined l a b gs first second s one other =
     let (bs, located, are) = some_located_stream l 0 a gs s in
     located_after l a b first second bs located (one_shown l a first (lines_text bs) one
     (inl (bs, located, refl))) other
-
--- ==== Any records are packed to one output, with one refused too, and any bytes are unpacked to
--- one.
 
 -- ==== Any records are packed to one output, and any bytes are unpacked to one.
 
@@ -557,3 +576,74 @@ pub refused_output : (style : Style) (l : Allowance) (text : List ℕ) (records 
     → PackTo style l records (canonical_stream style gs)
 refused_output style l text records number reason gs refused = inr
     (number, reason, gs, refused_all l text records number reason gs refused, refl)
+
+-- ==== What is left of an input after what was taken is converted to the rest of the output.
+
+-- the bytes after those taken
+left_of : {A : Type 0} {AreBlobs : List ℕ → List A → Type 0} {stream : List ℕ} {whole : List A} {taken : ℕ}
+    (t : TakesBlobs AreBlobs stream whole taken) → drop taken stream ≡ t.rest
+left_of {taken = taken} t = ap (λ (bs : List ℕ). drop taken bs) t.cut ∙ drop_at t.front t.rest taken (sym t.taken_is)
+
+pub unpacked_rest : (l : Allowance) (stream rows : List ℕ) (whole : List Tree) (taken : ℕ)
+    → TakesBlobs (Stream l) stream whole taken
+    → UnpackTo l (drop taken stream) (csvtext (header ∷ []) ++ rows) → UnpackTo l stream (table_text whole ++ rows)
+unpacked_rest l stream rows whole taken t rest =
+    subst (λ (bs : List ℕ). UnpackTo l bs (table_text whole ++ rows)) (sym t.cut)
+    (unpacked_joined l t.front t.rest whole (table_text whole) rows t.blobs (inl (whole, t.blobs, refl))
+    (subst (λ (bs : List ℕ). UnpackTo l bs (csvtext (header ∷ []) ++ rows)) (left_of t) rest))
+
+pub shown_rest : (l : Allowance) (stream lines : List ℕ) (whole : List Located) (taken : ℕ)
+    → TakesBlobs (LocatedStream l 0) stream whole taken → ShowTo l (drop taken stream) lines
+    → (later : List ℕ) × AreMovedLines taken lines later × ShowTo l stream (lines_text whole ++ later)
+shown_rest l stream lines whole taken t rest =
+    let joined = located_after l t.front t.rest (lines_text whole) lines whole t.blobs refl
+    (subst (λ (bs : List ℕ). ShowTo l bs lines) (left_of t) rest) in (
+      joined.0,
+      subst (λ (n : ℕ). AreMovedLines n lines joined.0) (sym t.taken_is) joined.1,
+      subst (λ (bs : List ℕ). ShowTo l bs (lines_text whole ++ joined.0)) (sym t.cut) joined.2,
+    )
+
+-- the last of valid geometries are valid
+valid_rest : (l : Allowance) (gs hs : List Tree) → AreValid l (gs ++ hs) → AreValid l hs
+valid_rest l [] hs v = v
+valid_rest l (g ∷ gs) hs v = valid_rest l gs hs v.1
+
+-- the records after those of the first geometries
+records_rest : (g : Tree) (gs hs : List Tree)
+    → drop (records_of (g ∷ gs)) (table ((g ∷ gs) ++ hs)) ≡ map record_of (rows_of hs)
+records_rest g gs hs =
+    ap (λ (rs : List Record). drop (records_of (g ∷ gs)) (header ∷ rs)) (records-append (g ∷ gs) hs)
+    ∙ drop_at (table (g ∷ gs)) (map record_of (rows_of hs)) (records_of (g ∷ gs)) refl
+
+packed_after : (style : Style) (l : Allowance) (records : List Record) (ks whole left : List Tree) (rest : List ℕ)
+    → IsAllowance l → Named l records ks → ks ≡ whole ++ left → whole ≢ []
+    → PackTo style l (header ∷ drop (records_of whole) records) rest
+    → PackTo style l records (canonical_stream style whole ++ rest)
+packed_after style l records ks [] left rest allowed named same some packs = absurd (some refl)
+packed_after style l records ks (g ∷ gs) left rest allowed named same some packs =
+    let below : drop (records_of (g ∷ gs)) records ≡ map record_of (rows_of left)
+    = ap (λ (rs : List Record). drop (records_of (g ∷ gs)) rs) (named.table_of ∙ ap table same)
+    ∙ records_rest g gs left in
+    let other : Named l (header ∷ drop (records_of (g ∷ gs)) records) left = record {
+      table_of = ap (λ (rs : List Record). header ∷ rs) below;
+      valid = valid_rest l (g ∷ gs) left (subst (AreValid l) same named.valid);
+    } in
+    let out = packed_records style l (header ∷ drop (records_of (g ∷ gs)) records) rest left allowed other packs in
+    inl (
+      ks,
+      named,
+      ap (λ (bs : List ℕ). canonical_stream style (g ∷ gs) ++ bs) out
+          ∙ sym (flat_map-append (canonical_blob style) (g ∷ gs) left)
+          ∙ ap (canonical_stream style) (sym same),
+    )
+
+pub packed_rest : (style : Style) (l : Allowance) (text written rest : List ℕ) (records : List Record)
+    → IsAllowance l → IsTable l text records → (part : FrontOfBlobs style l (Some text) written) → part.whole ≢ []
+    → PackTo style l (header ∷ drop (records_of part.whole) records) rest
+    → PackTo style l records (canonical_stream style part.whole ++ rest)
+packed_rest style l text written rest records allowed (all, (ks, named)) part some packs =
+    let may = part.ready in
+    let (others, first) = ready_named l text records may.records may.geometries (part.whole ++ part.later) ks allowed
+    all may.begins may.named may.ready named in
+    packed_after style l records ks part.whole (part.later ++ others) rest allowed named
+    (first ∙ append_assoc part.whole part.later others) some packs

@@ -2,17 +2,19 @@
 use lib.Dec.{eqb}
 use Rattle.std.specs.Prelude.{OnOk, not, ℤ}
 use Rattle.std.proofs.lemmas.Bool.{eqb-false, eqb-true}
+use Rattle.std.proofs.lemmas.Bool.Decides.{nat_tests}
 use Rattle.twkb_points.specs.Point.{Point}
 use Rattle.twkb_io.specs.declared.TheConstants.{MAX_BYTES}
 use Rattle.twkb_io.specs.declared.output.OutFault.TheVariants as out
 use Rattle.twkb_io.specs.Taps.{has_unflushed}
 use Rattle.twkb_tree.specs.Tree.{nodes, saturated, Simple, point, IsTree, IsPrecision}
 use Rattle.twkb_tree.specs.Rows.{own_row}
+use Rattle.twkb_tree.proofs.TreeLemmas.{length-rows_with}
 use Rattle.twkb_grammar.specs.Noting.{geometries}
 use Rattle.twkb_writer.specs.MeasuredRows.{Measures}
 use Rattle.twkb_writer.specs.Bytes.{one_point}
-use Rattle.twkb_table.specs.RowReading.{waiting}
-use Rattle.twkb_table.specs.TableReading.{GivesRows, HaveGiven, Progress, ReachesEnd, StandsAfter, StandsAt, progress}
+use Rattle.twkb_table.specs.TableReading.{GivesRows, HaveGiven, NameSoFar, Progress, ReachesEnd}
+use Rattle.twkb_table.specs.TableReading.{StandsAfter, StandsAt, progress}
 use Rattle.twkb_table.specs.TableReading as Table
 use Rattle.twkb_table.specs.declared.table_fault.TableFault.{TableFault}
 use Rattle.twkb_table.specs.declared.table_reader.TableReader.{TableReader}
@@ -22,6 +24,7 @@ use Rattle.twkb_table.proofs.TableSteps.{all_but_last-last, names_so_far, text_b
 use Rattle.twkb_convert.specs.Packed.{AddsWork, IsWorkOf, points, total, no_work, ExplainsPackingCause, PackedWith}
 use Rattle.twkb_convert.specs.Packed.{StoppedPacking}
 use Rattle.twkb_convert.specs.SentGeometries.{CutsBlob, WritesBlob, Ends, SendsTable, SentSoFar, EndsTable}
+use Rattle.twkb_convert.specs.SentGeometries.{SendsPoints, records_with, with_rows}
 use Rattle.twkb_convert.specs.Causes.{cause_of_output, cause_of_table, after_reads, is_write, Drains}
 use Rattle.twkb_convert.specs.Outputs.{Flushes, Finishes, UnlessRefused}
 use Rattle.twkb_convert.specs.declared.sent_geometries.Sent.{Sent}
@@ -32,9 +35,9 @@ use Rattle.twkb_convert.proofs.Prelude.{length-append, IfSome, append-nil, flat_
 use Rattle.twkb_convert.proofs.Prelude.{refused_join, took_join, took_nothing, Output, OutFault, Tree, simple}
 use Rattle.twkb_convert.proofs.Prelude.{collection, Row, Allowance, Work, canonical_blob, canonical_stream, Style}
 use Rattle.twkb_convert.proofs.Prelude.{Record, AreRecordsOf, BeginWith, standing, all_but_last, MayBeWritten, Cause}
-use Rattle.twkb_convert.proofs.Prelude.{IsAtEnd, Named, ◌^◌, Appends, bytes_given, count_failure, device_of}
+use Rattle.twkb_convert.proofs.Prelude.{IsAtEnd, Named, ◌^◌, ◌-◌, Appends, bytes_given, count_failure, device_of}
 use Rattle.twkb_convert.proofs.Prelude.{failures_of, output_tap, Tap, Changes, IsDeviceCause, ConvertFault, Report}
-use Rattle.twkb_convert.proofs.Prelude.{Some, None, Took, rows}
+use Rattle.twkb_convert.proofs.Prelude.{Some, None, Took, rows, rows_of, record_of, records_of, length-map}
 use Rattle.twkb_convert.proofs.FlushLemmas.{leaves_last, leaves_refused, leaves_took, flushed_after, flushed_last}
 use Rattle.twkb_convert.proofs.FlushLemmas.{flushes_before, kept_last, ok_before, reports_err, reports_ok}
 
@@ -97,9 +100,44 @@ pub ready_after : {R : Type 0} (l : Allowance) (remaining : R → Option (List �
     (told : Option (List ℕ)) (records : List Record) (given : List Tree) (now : Progress R)
     → StandsAt l remaining told records given now → MayBeWritten l told given
 ready_after l remaining told records given now s =
-    ready_gave l told records given (waiting now.rows) (is_over now.rows.state)
+    ready_gave l told records given s.root (is_over now.rows.state)
     (text_begins remaining told records now s.source)
     (λ over. subst (λ e. standing remaining told records e now.source) over s.source) s.gave
+
+-- ---- their rows
+
+-- geometries have as many rows as nodes
+length-rows_of : (gs : List Tree) → length (rows_of gs) ≡ total nodes gs
+length-rows_of [] = refl
+length-rows_of (g ∷ gs) = length-append (rows 0 g) (rows_of gs)
+    ∙ omega (arith, length-rows_with None 0 g, length-rows_of gs)
+
+-- the records of a table are the header and its rows
+named_rows : (l : Allowance) (records : List Record) (gs : List Tree) → Named l records gs
+    → length records ≡ total nodes gs + 1
+named_rows l records gs named =
+    omega (arith, ap length named.table_of, length-map (rows_of gs) record_of, length-rows_of gs)
+
+so_far_rows : (l : Allowance) (records : List Record) (gs : List Tree) → NameSoFar l records gs
+    → total nodes gs ≤ length records
+so_far_rows l [] gs none = omega (arith, ap (total nodes) none)
+so_far_rows l (first ∷ records) gs named = omega (arith, named_rows l (first ∷ records) gs named)
+
+-- the geometries that were given have no more rows than there are records
+given_rows : (l : Allowance) (records : List Record) (given : List Tree) (waits : List Row) (ended : Bool)
+    → HaveGiven l records given waits ended → total nodes given ≤ length records
+given_rows l records given [] ended (named, none) = so_far_rows l records given named
+given_rows l records given (root ∷ more) ended (last, named, same, going) =
+    omega (arith, named_rows l records (given ++ last ∷ []) named, total-last nodes given last)
+
+-- so the number of their records is as it is computed
+taken_records : (gs : List Tree) (geometries rows : ℕ) → geometries ≡ length gs → rows ≡ saturated (total nodes gs)
+    → total nodes gs < 2 ^ 32 → records_with geometries rows ≡ records_of gs
+taken_records [] geometries rows count rows_is few = rw count refl
+taken_records (g ∷ gs) geometries rows count rows_is few =
+    let more : eqb geometries 0 ≡ false = grind (arith, nat_tests) in
+    let exact : rows ≡ total nodes (g ∷ gs) = omega (arith, rows_is, few) in
+    rw more (omega (arith, exact, few, length-map (rows_of (g ∷ gs)) record_of, length-rows_of (g ∷ gs)))
 
 -- ---- geometries that were sent
 
@@ -123,19 +161,63 @@ stream_long style (g ∷ gs) = omega (
   stream_long style gs,
 )
 
+-- one more row, at most the greatest u64
+pub one_more_row : (first all nodes before mid after : ℕ) → before ≤ mid
+    → saturated (first + (mid - before)) ≡ saturated all → nodes ≡ saturated all → after ≡ saturated (nodes + 1)
+    → saturated (first + (mid + 1 - before)) ≡ after
+one_more_row first all nodes before mid after few same known is = omega (arith, few, same, known, is)
+
+same_sent : (a b : Sent) → a.geometries ≡ b.geometries → a.rows ≡ b.rows → a.work ≡ b.work → a ≡ b
+same_sent a b p q r =
+    ap (λ (n : ℕ). record { geometries = n; rows = a.rows; work = a.work }) p
+    ∙ ap (λ (n : ℕ). record { geometries = b.geometries; rows = n; work = a.work }) q
+    ∙ ap (λ (w : Work). record { geometries = b.geometries; rows = b.rows; work = w }) r
+
+-- the points of a run were sent, and then their rows were counted
+pub rows_counted : {R W : Type 0} (style : Style) (remaining : R → Option (List ℕ)) (contents : W → Option (List ℕ))
+    (from to last : TableReader R) (old new end : Output W) (before sent after : Sent)
+    (answer : Result (Unit {0}) Cause) → last ≡ to → end ≡ new → sent.rows ≡ before.rows
+    → after.geometries ≡ sent.geometries
+    → after.rows ≡ saturated (sent.rows + (sent.geometries - before.geometries)) → after.work ≡ sent.work
+    → SendsPoints style remaining contents from old before to new (with_rows before sent) answer
+    → SendsPoints style remaining contents from old before last end after answer
+rows_counted style remaining contents from to last old new end before sent after answer there closed same p q r sends =
+    let is : after ≡ with_rows before sent = same_sent after (with_rows before sent) p
+    (q ∙ ap (λ (n : ℕ). saturated (n + (sent.geometries - before.geometries))) same) r in
+    subst (λ t. SendsPoints style remaining contents from old before t end after answer) (sym there)
+    (subst (λ o. SendsPoints style remaining contents from old before to o after answer) (sym closed)
+    (subst (λ s. SendsPoints style remaining contents from old before to new s answer) (sym is) sends))
+
 module _ {R W : Type 0} {style : Style} {l : Allowance} {remaining : R → Option (List ℕ)}
     {contents : W → Option (List ℕ)} {told : Option (List ℕ)} where
+  -- no point was sent yet
+  pub rows_first : {from : TableReader R} {old mid : Output W} {before : Sent}
+      → SentSoFar style l remaining contents told from old mid before
+      → SentSoFar style l remaining contents told from old mid (with_rows before before)
+  rows_first {before = before} s = record {
+    records = s.records;
+    geometries = s.geometries;
+    stands = s.stands;
+    took = s.took;
+    count = s.count;
+    rows_is = (let is = s.rows_is in omega (arith, is));
+    work_of = s.work_of;
+    fresh = s.fresh;
+    unsent = s.unsent;
+  }
+
   -- no geometry was sent yet
   pub sent_none : {from : TableReader R} {old : Output W} {work : Work} → work ≡ no_work
       → is_spent old ≡ false → sent_of old ≡ 0 → StandsAfter l remaining told [] [] from
       → SentSoFar style l remaining contents told from old old
-      (record { geometries = 0; work = work })
+      (record { geometries = 0; rows = 0; work = work })
   sent_none {old = old} idle fresh unsent stands = record {
     records = [];
     geometries = [];
     stands = stands;
     took = took_nothing contents old;
     count = refl;
+    rows_is = refl;
     work_of = subst (λ (w : Work). IsWorkOf [] w) (sym idle) (record {
       all_points = refl;
       all_nodes = refl;
@@ -152,25 +234,35 @@ module _ {R W : Type 0} {style : Style} {l : Allowance} {remaining : R → Optio
     -- one more geometry was sent
     pub sent_more : {to : TableReader R} {new : Output W} {rows : List Row}
         (gives : GivesRows l remaining told s.records s.geometries rows (progress to))
-        → after.geometries ≡ before.geometries + 1
+        → after.geometries ≡ before.geometries + 1 → after.rows ≡ after.work.nodes
         → WritesBlob style contents gives.geometry mid before.work new after.work
         → SentSoFar style l remaining contents told to old new after
-    sent_more {new = new} gives more writes = record {
+    sent_more {new = new} gives more rows_are writes = record {
       records = gives.seen;
       geometries = s.geometries ++ gives.geometry ∷ [];
       stands = gives.stands;
       took = rw (stream_one style s.geometries gives.geometry) (took_join contents old mid new _ _ s.took writes.took);
       count = (let c = s.count in omega (arith, more, c, length-append s.geometries (gives.geometry ∷ [])));
+      rows_is = rows_are
+          ∙ (work_more s.geometries gives.geometry before.work after.work s.work_of writes.work).all_nodes;
       work_of = work_more s.geometries gives.geometry before.work after.work s.work_of writes.work;
       fresh = s.fresh;
       unsent = s.unsent;
     }
 
+    -- what was taken, if nothing more was sent
+    all_taken : after.geometries ≡ before.geometries → after.rows ≡ before.rows
+        → records_with after.geometries after.rows ≡ records_of s.geometries
+    all_taken same same_rows = taken_records s.geometries after.geometries after.rows (same ∙ s.count)
+        (same_rows ∙ s.rows_is)
+        (omega (arith, s.stands.few, given_rows l s.records s.geometries _ _ s.stands.gave))
+
     -- no more was sent, for this answer
     sent_whole : (given : ℕ) (answer : Result (Unit {0}) Cause) → after.geometries ≡ before.geometries
-        → is_write answer ≡ false → Ends style l told given after.work s.geometries [] [] answer
+        → after.rows ≡ before.rows → is_write answer ≡ false
+        → Ends style l told given after.work s.geometries [] [] answer
         → SendsTable style l contents told given old mid after answer
-    sent_whole given answer same quiet ends = record {
+    sent_whole given answer same same_rows quiet ends = record {
       bytes = canonical_stream style s.geometries;
       part = record {
         whole = s.geometries;
@@ -184,31 +276,36 @@ module _ {R W : Type 0} {style : Style} {l : Allowance} {remaining : R → Optio
       one = inl refl;
       leaves = leaves_took answer s.took s.fresh quiet;
       count = same ∙ s.count;
+      taken_is = all_taken same same_rows;
       ends = ends;
     }
 
     -- the table gave no geometry
     pub ends_fault : (given : ℕ) (f : TableFault) → after.geometries ≡ before.geometries
-        → Table.Explains l told s.records s.geometries f
+        → after.rows ≡ before.rows → Table.Explains l told s.records s.geometries f
         → SendsTable style l contents told given old mid after (Err (cause_of_table f))
-    ends_fault given (table_fault.At number reason) same e = sent_whole given (Err (cause.Row number reason)) same refl
+    ends_fault given (table_fault.At number reason) same rows_same e =
+        sent_whole given (Err (cause.Row number reason)) same rows_same refl
         (refl, refl, record { seen = e.seen; begins = e.begins; none = e.none; fault = e.complete })
-    ends_fault given table_fault.TooManyRecords same e = sent_whole given (Err cause.TooManyRecords) same refl (
-      refl,
-      refl,
-      record {
-        before = e.before;
-        here = e.here;
-        begins = e.begins;
-        many = e.many;
-        geometries = e.geometries;
-        named = e.named;
-        complete = e.complete;
-      },
-    )
-    ends_fault given table_fault.Source same e = sent_whole given (Err cause.ReadDevice) same refl (refl, refl)
-    ends_fault given table_fault.Memory same e = sent_whole given (Err cause.Memory) same refl (refl, refl)
-    ends_fault given table_fault.Spent same e = absurd e
+    ends_fault given table_fault.TooManyRecords same rows_same e =
+        sent_whole given (Err cause.TooManyRecords) same rows_same refl (
+          refl,
+          refl,
+          record {
+            before = e.before;
+            here = e.here;
+            begins = e.begins;
+            many = e.many;
+            geometries = e.geometries;
+            named = e.named;
+            complete = e.complete;
+          },
+        )
+    ends_fault given table_fault.Source same rows_same e =
+        sent_whole given (Err cause.ReadDevice) same rows_same refl (refl, refl)
+    ends_fault given table_fault.Memory same rows_same e =
+        sent_whole given (Err cause.Memory) same rows_same refl (refl, refl)
+    ends_fault given table_fault.Spent same rows_same e = absurd e
 
     cut_ends : (given : ℕ) (f : OutFault) (later : List Tree) (front : List ℕ)
         → (f ≡ out.TooLong → MAX_BYTES < length (canonical_stream style (s.geometries ++ later))) → f ≢ out.Spent
@@ -220,10 +317,10 @@ module _ {R W : Type 0} {style : Style} {l : Allowance} {remaining : R → Optio
     -- the output refused a prefix of the next blob
     pub ends_cut : {now : Progress R} {new : Output W} {f : OutFault} {rows : List Row}
         (given : ℕ) (gives : GivesRows l remaining told s.records s.geometries rows now)
-        → after.geometries ≡ before.geometries
+        → after.geometries ≡ before.geometries → after.rows ≡ before.rows
         → Cut contents mid (canonical_blob style gives.geometry) f new
         → SendsTable style l contents told given old new after (Err (cause_of_output f))
-    ends_cut {now = now} {new = new} {f = f} given gives same cut =
+    ends_cut {now = now} {new = new} {f = f} given gives same same_rows cut =
         let fresh : is_spent mid ≡ false = s.took.spent ∙ s.fresh in
         record {
           bytes = canonical_stream style s.geometries ++ cut.front;
@@ -240,6 +337,7 @@ module _ {R W : Type 0} {style : Style} {l : Allowance} {remaining : R → Optio
           leaves = leaves_refused (refused_join contents old mid new _ cut.front f s.took
               cut.refused);
           count = same ∙ s.count;
+          taken_is = all_taken same same_rows;
           ends = cut_ends given f (gives.geometry ∷ []) cut.front
               (λ far. (let most = cut.too_long far in let sent = s.took.sends.sent in
               omega (
@@ -256,11 +354,12 @@ module _ {R W : Type 0} {style : Style} {l : Allowance} {remaining : R → Optio
     -- the blob of the next geometry was not sent whole
     pub ends_blob : {now : Progress R} {new : Output W} {why : Cause} {rows : List Row}
         (given : ℕ) (gives : GivesRows l remaining told s.records s.geometries rows now)
-        → after.geometries ≡ before.geometries → CutsBlob style contents gives.geometry mid why new
+        → after.geometries ≡ before.geometries → after.rows ≡ before.rows
+        → CutsBlob style contents gives.geometry mid why new
         → SendsTable style l contents told given old new after (Err why)
-    ends_blob given gives same (inl (memory, unsent)) =
-        rw (unsent, memory) (ends_fault given table_fault.Memory same tt)
-    ends_blob given gives same (inr (f, is, cut)) = rw is (ends_cut given gives same cut)
+    ends_blob given gives same same_rows (inl (memory, unsent)) =
+        rw (unsent, memory) (ends_fault given table_fault.Memory same same_rows tt)
+    ends_blob given gives same same_rows (inr (f, is, cut)) = rw is (ends_cut given gives same same_rows cut)
 
   module _ {from : TableReader R} {old mid : Output W} {sent : Sent}
       (s : SentSoFar style l remaining contents told from old mid sent) where
@@ -268,7 +367,7 @@ module _ {R W : Type 0} {style : Style} {l : Allowance} {remaining : R → Optio
     pub ends_table : {now : Progress R} (given : ℕ)
         → ReachesEnd l remaining told s.records s.geometries now
         → SendsTable style l contents told given old mid sent (Ok tt)
-    ends_table given meets = sent_whole s sent given (Ok tt) refl refl (record {
+    ends_table given meets = sent_whole s sent given (Ok tt) refl refl refl (record {
       table = record {
         records = meets.seen;
         geometries = s.geometries;
@@ -285,7 +384,7 @@ module _ {R W : Type 0} {style : Style} {l : Allowance} {remaining : R → Optio
     -- more geometries than can be counted have more bytes than can be sent
     pub ends_uncounted : (given : ℕ) → MAX_BYTES < sent.geometries
         → SendsTable style l contents told given old mid sent (Err cause.TooLong)
-    ends_uncounted given many = sent_whole s sent given (Err cause.TooLong) refl refl
+    ends_uncounted given many = sent_whole s sent given (Err cause.TooLong) refl refl refl
         (inl (let c = s.count in omega (
           arith,
           many,
@@ -321,6 +420,7 @@ module _ {W : Type 0} {style : Style} {l : Allowance} {contents : W → Option (
       unspent = λ no_write no_length. s.leaves.unspent;
     };
     count = s.count;
+    taken_is = s.taken_is;
     ends = ends;
   }
 
@@ -357,6 +457,7 @@ module _ {W : Type 0} {style : Style} {l : Allowance} {contents : W → Option (
         one = s.one;
         leaves = after.0;
         count = s.count;
+        taken_is = s.taken_is;
         ends = ends after.1;
       }
     where
@@ -411,9 +512,9 @@ changes_as before after first last was is = subst (λ n. Changes (not (eqb after
     (subst (λ n. Changes (not (eqb after before)) n after) was (changes_by before after))
 
 -- what is flushed at the end
-module _ {W : Type 0} {contents : W → Option (List ℕ)} {mid new : Output W} {geometries : ℕ}
+module _ {W : Type 0} {contents : W → Option (List ℕ)} {mid new : Output W} {geometries taken : ℕ}
     {report : Result Report ConvertFault} (failed : Bool) (drained : Result (Unit {0}) Cause)
-    (finishes : Finishes contents mid geometries (after_reads failed drained) new report)
+    (finishes : Finishes contents mid geometries taken (after_reads failed drained) new report)
     (unspent : UnlessRefused drained (is_spent mid ≡ false)) (written : Tap W)
     (closes : (output_tap new).now ≡ written) where
   flushes : (answer : Result (Unit {0}) Cause) × Flushes contents mid drained new answer
@@ -426,14 +527,15 @@ module _ {W : Type 0} {contents : W → Option (List ℕ)} {mid new : Output W} 
 
   pub flushed_ok : (done : Report) → report ≡ Ok done → has_unflushed written ≡ false
   flushed_ok done is =
-      let (ok, same) = reports_ok geometries (sent_of new) done finishes.answer (sym is ∙ finishes.reports) in
+      let (ok, same) = reports_ok geometries (sent_of new) taken done finishes.answer (sym is ∙ finishes.reports) in
       subst (λ a. UnlessRefused a (has_unflushed written ≡ false))
       (ok_before failed flushes.0 tt (sym ok ∙ flushes.2)) held
 
   pub flushed_err : (fault : ConvertFault) → report ≡ Err fault → fault.cause ≢ cause.WriteDevice
       → fault.cause ≢ cause.ReadDevice → fault.cause ≢ cause.TooLong → has_unflushed written ≡ false
   flushed_err fault is no_write no_read no_length =
-      let (stops, same) = reports_err geometries (sent_of new) fault finishes.answer (sym is ∙ finishes.reports) in
+      let (stops, same) = reports_err geometries (sent_of new) taken fault finishes.answer
+      (sym is ∙ finishes.reports) in
       flushed_after failed flushes.0 fault.cause (has_unflushed written ≡ false) (sym stops ∙ flushes.2) held
       no_write no_read no_length
 
@@ -444,7 +546,8 @@ module _ {R W : Type 0} {style : Style} {l : Allowance} {contents : W → Option
     (writer written : Tap W) (failed : Bool) (drained : Result (Unit {0}) Cause)
     (changes : Changes failed (failures_of reader) (failures_of read))
     (end : OnOk drained (IsAtEnd (remaining (device_of read))))
-    (finishes : Finishes contents mid sent.geometries (after_reads failed drained) new report)
+    (finishes : Finishes contents mid sent.geometries (records_with sent.geometries sent.rows)
+    (after_reads failed drained) new report)
     (sends : SendsTable style l contents (remaining (device_of reader)) (bytes_given read) old mid
     sent drained)
     (borrowed : (output_tap old).now ≡ writer) (closes : (output_tap new).now ≡ written) (none : sent_of old ≡ 0)
@@ -476,7 +579,8 @@ module _ {R W : Type 0} {style : Style} {l : Allowance} {contents : W → Option
         → sent.work.node_reads < 2 ^ 64
         → PackedWith style l remaining contents reader writer done sent.work read written
     packed_with done is few_points few_nodes =
-        let (ok, same) = reports_ok sent.geometries (sent_of new) done finishes.answer (sym is ∙ finishes.reports) in
+        let (ok, same) = reports_ok sent.geometries (sent_of new) (records_with sent.geometries sent.rows) done
+        finishes.answer (sym is ∙ finishes.reports) in
         let all = ok_before failed flushed.0 tt (sym ok ∙ flushed.2) in
         let (quiet, ends) = subst (Tells style l (remaining (device_of reader)) (bytes_given read) sent.work
         s.part.whole s.part.later s.part.front failed flushed.0) ok told in
@@ -491,6 +595,7 @@ module _ {R W : Type 0} {style : Style} {l : Allowance} {contents : W → Option
             count = ap (λ (r : Report). r.geometries) same ∙ s.count ∙ ap length (sym ends.same);
             bytes = (let more = s.leaves.sends.sent in let total = ap (λ (r : Report). r.bytes) same in
                 omega (arith, total, more, none, ap length stream));
+            taken = ap (λ (r : Report). r.taken) same ∙ s.taken_is ∙ ap records_of (sym ends.same);
             end = kept_last tt (IsAtEnd (remaining (device_of read))) flushed.1 end all;
             reads = subst (λ f. Changes f (failures_of reader) (failures_of read)) quiet changes;
             writes = subst (λ a. failures_of written ≡ count_failure (is_write a) (failures_of writer)) all writes;
@@ -504,8 +609,8 @@ module _ {R W : Type 0} {style : Style} {l : Allowance} {contents : W → Option
     pub stopped_packing : (fault : ConvertFault) → report ≡ Err fault
         → StoppedPacking style l remaining contents reader writer fault read written
     stopped_packing fault is =
-        let (stops, same) = reports_err sent.geometries (sent_of new) fault finishes.answer
-        (sym is ∙ finishes.reports) in
+        let (stops, same) = reports_err sent.geometries (sent_of new)
+        (records_with sent.geometries sent.rows) fault finishes.answer (sym is ∙ finishes.reports) in
         let (explains, device) = subst (Tells style l (remaining (device_of reader)) (bytes_given read) sent.work
         s.part.whole s.part.later s.part.front failed flushed.0) stops told in
         record {
@@ -516,6 +621,7 @@ module _ {R W : Type 0} {style : Style} {l : Allowance} {contents : W → Option
           sent = (let more = s.leaves.sends.sent in let total = ap (λ (f : ConvertFault). f.sent) same in
               omega (arith, total, more, none));
           done = ap (λ (f : ConvertFault). f.done) same ∙ s.count;
+          taken = ap (λ (f : ConvertFault). f.taken) same ∙ s.taken_is;
           explains = explains;
           devices = record {
             read_failed = failed;

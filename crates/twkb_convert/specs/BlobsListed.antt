@@ -10,7 +10,7 @@ use Rattle.twkb_convert.specs.Listed.{Follows, IsBetween, Used, given, limits_of
 use Rattle.twkb_convert.specs.Listed.{ExplainsListingCause}
 use Rattle.twkb_convert.specs.Causes.{IsDeviceCause, is_write}
 use Rattle.twkb_convert.specs.Outputs.{Leaves}
-use Rattle.twkb_convert.specs.Parts.{FrontOfText}
+use Rattle.twkb_convert.specs.Parts.{FrontOfText, TakesBlobs}
 use Rattle.twkb_convert.specs.Listings.{Layout, listing_text, LocatedStream, geometries_of}
 use Rattle.twkb_convert.specs.declared.report.Cause.{Cause}
 
@@ -22,9 +22,10 @@ pub record IsFresh {R W : Type 0} {read : Ghosts R} (reader : Reader R read) (ou
   pub unsent : sent_of output ≡ 0
 
 -- The text before the first blob and the texts of these blobs were sent, from a reader that had
--- read nothing, and nothing was refused. Their number is at most that of the bytes given out.
+-- read nothing, and nothing was refused. Their number is at most that of the bytes given out, which
+-- are those taken.
 pub record SentSoFar {R W : Type 0} {read : Ghosts R} (layout : Layout) (contents : W → Option (List ℕ))
-    (from : Reader R read) (old : Output W) (to : Reader R read) (new : Output W) (done : ℕ) : Type 0 where
+    (from : Reader R read) (old : Output W) (to : Reader R read) (new : Output W) (done taken : ℕ) : Type 0 where
   pub found : List Located
   pub bytes : List ℕ
   pub blobs : LocatedStream (limits_of from) 0 bytes found
@@ -35,6 +36,7 @@ pub record SentSoFar {R W : Type 0} {read : Ghosts R} (layout : Layout) (content
   pub between : IsBetween to
   pub unspent : is_spent new ≡ false
   pub few : done ≤ given to
+  pub taken_is : taken ≡ given to
 
 -- All bytes are the blobs whose text was sent, no read failed, and the reader is at its end.
 pub record ListsAll {R : Type 0} {read : Ghosts R} (from to : Reader R read) (bytes : List ℕ)
@@ -60,15 +62,16 @@ Ends layout from to bytes whole later left read_failed (Ok done) = ListsAll from
 Ends layout from to bytes whole later left read_failed (Err why) =
     ListsUpTo layout from to bytes whole later left read_failed why
 
--- A prefix of the text of a stream was sent, from a reader that had read nothing, and this is the
--- number of blobs whose text is whole in it.
+-- A prefix of the text of a stream was sent, from a reader that had read nothing, and these are the
+-- numbers of blobs whose text is whole in it, and of their bytes.
 pub record Lists {R W : Type 0} {read : Ghosts R} (layout : Layout)
     (contents : W → Option (List ℕ)) (from : Reader R read) (old : Output W) (to : Reader R read)
-    (new : Output W) (done : ℕ) (answer : Result (Unit {0}) Cause) : Type 0 where
+    (new : Output W) (done taken : ℕ) (answer : Result (Unit {0}) Cause) : Type 0 where
   pub text : List ℕ
   pub part : FrontOfText (LocatedStream (limits_of from) 0) (listing_text layout) (rest_of from) text
   pub leaves : Leaves contents old text new answer
   pub count : done ≡ length part.whole
+  pub takes : TakesBlobs (LocatedStream (limits_of from) 0) part.bytes part.whole taken
   pub read_failed : Bool
   pub follows : Follows from to read_failed
   pub ends : Ends layout from to part.bytes part.whole part.later part.left read_failed answer

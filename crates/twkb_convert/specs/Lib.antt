@@ -6,4 +6,5 @@ pub mod SentGeometries
 pub mod Listings
 pub mod Listed
 pub mod BlobsListed
-pub mod Conversions
+pub mod Collections
+pub mod Version

@@ -20,7 +20,7 @@ use Rattle.twkb_convert.specs.declared.report.Cause.{Cause}
 use Rattle.twkb_convert.specs.declared.report.Cause.TheVariants as cause
 use Rattle.twkb_tree.specs.Tree.{Tree}
 use Rattle.twkb_convert.specs.Causes.{CountsOne, DevicesTell}
-use Rattle.twkb_convert.specs.Parts.{FrontOfText}
+use Rattle.twkb_convert.specs.Parts.{FrontOfText, TakesBlobs}
 use Rattle.twkb_convert.specs.declared.report.Report.{Report}
 use Rattle.twkb_convert.specs.declared.report.ConvertFault.{ConvertFault}
 
@@ -139,8 +139,9 @@ ReadsText layout from to text (Err why) = MissesText from to why
 -- ==== How far the text of a stream was written, and why it stopped. The blobs are given as trees,
 -- or as trees with their spans.
 
--- All bytes of the reader are these blobs, and the writer took their text; no device failed, and
--- the reader is at its end.
+-- All bytes of the reader are these blobs, and the writer took their text; the report has their
+-- number and the numbers of bytes written and taken; no device failed, and the reader is at its
+-- end.
 pub record Listed {R W A : Type 0} (AreBlobs : List ℕ → List A → Type 0) (text_of : List A → List ℕ)
     (remaining : R → Option (List ℕ)) (contents : W → Option (List ℕ))
     (reader : Tap R) (writer : Tap W) (report : Report) (read : Tap R) (written : Tap W) : Type 0 where
@@ -149,6 +150,7 @@ pub record Listed {R W A : Type 0} (AreBlobs : List ℕ → List A → Type 0) (
   pub appends : Appends (contents (device_of writer)) (contents (device_of written)) (text_of found)
   pub geometries : report.geometries ≡ length found
   pub bytes : report.bytes ≡ length (text_of found)
+  pub taken : IfSome (remaining (device_of reader)) (λ bytes. report.taken ≡ length bytes)
   pub end : IfSome (remaining (device_of reader)) (λ bytes. IsAtEnd (remaining (device_of read)))
   pub reads : failures_of read ≡ failures_of reader
   pub writes : failures_of written ≡ failures_of writer
@@ -172,7 +174,9 @@ ExplainsListingCause trees_of text_of l old told bytes cause.TooLong whole later
 ExplainsListingCause trees_of text_of l old told bytes cause.TooManyRecords whole later left = ⊥
 
 -- The bytes of the reader begin with blobs, and the writer took a prefix of their text, with the
--- whole text of the first ones.
+-- whole text of the first ones. The fault has the number of these (`done`), how many bytes of the
+-- input they are (`taken`), the length of the prefix (`sent`), and a cause that explains why the
+-- writing stopped there, and agrees with the failures that the taps counted.
 pub record StoppedListing {R W A : Type 0} (AreBlobs : List ℕ → List A → Type 0)
     (trees_of : List A → List Tree) (text_of : List A → List ℕ) (l : Allowance)
     (remaining : R → Option (List ℕ)) (contents : W → Option (List ℕ)) (reader : Tap R)
@@ -182,6 +186,7 @@ pub record StoppedListing {R W A : Type 0} (AreBlobs : List ℕ → List A → T
   pub appends : Appends (contents (device_of writer)) (contents (device_of written)) text
   pub done : fault.done ≡ length part.whole
   pub sent : fault.sent ≡ length text
+  pub taken : TakesBlobs AreBlobs part.bytes part.whole fault.taken
   pub explains : ExplainsListingCause trees_of text_of l (remaining (device_of reader))
       (remaining (device_of read)) part.bytes fault.cause part.whole part.later part.left
   pub devices : DevicesTell CountsOne reader writer fault.cause read written

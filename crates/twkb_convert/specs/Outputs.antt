@@ -1,5 +1,5 @@
 -- The outputs of the conversions, and what is flushed when a conversion ends.
-use Rattle.std.specs.Prelude.{◌≡◌, ◌≢◌, ℕ, ◌⊎◌, List, [], ◌∷◌, map, Option, Result, Ok, Err, false, true}
+use Rattle.std.specs.Prelude.{◌≡◌, ◌≢◌, ℕ, ◌⊎◌, List, [], ◌∷◌, map, Option, Result, Ok, Err, false, true, flat_map}
 use Rattle.twkb_tree.specs.Tree.{Tree}
 use Rattle.twkb_tree.specs.Limits.{Allowance}
 use Rattle.twkb_tree.specs.Rows.{rows_of}
@@ -9,6 +9,7 @@ use Rattle.twkb_grammar.specs.Written.{canonical_stream}
 use Rattle.twkb_grammar.specs.declared.style.Style.{Style}
 use Rattle.twkb_table.specs.Record.{Record, record_of, table}
 use Rattle.twkb_table.specs.Text.{csvtext}
+use Rattle.twkb_geojson.specs.Value.{line_of}
 use Rattle.twkb_table.specs.CsvRecords.{AreRecordsOf}
 use Rattle.twkb_table.specs.RowFault.{Named, AreComplete}
 use Rattle.twkb_table.specs.declared.reason.RowReason.{RowReason}
@@ -54,13 +55,21 @@ rows_text gs = csvtext (map record_of (rows_of gs))
 abbrev pub table_text : List Tree → List ℕ
 table_text gs = csvtext (table gs)
 
--- A stream is unpacked to this text: the table of its geometries or, if an item is refused, of
--- those of the blobs before the refused one (profile).
-abbrev pub UnpackTo : Allowance → List ℕ → List ℕ → Type 0
-UnpackTo l bytes text =
-    ((gs : List Tree) × Stream l bytes gs × (text ≡ table_text gs))
+-- the GeoJSON of geometries, each in a line (profile)
+abbrev pub geojson_text : List Tree → List ℕ
+geojson_text gs = flat_map line_of gs
+
+-- The bytes have this text: that of the stream's geometries or, if an item is refused, of those of
+-- the blobs before the refused one (profile).
+abbrev pub TextTo : (List Tree → List ℕ) → Allowance → List ℕ → List ℕ → Type 0
+TextTo text_of l bytes text =
+    ((gs : List Tree) × Stream l bytes gs × (text ≡ text_of gs))
     ⊎ ((offset : ℕ) × (reason : Reason) × (gs : List Tree) × StreamFault l bytes gs offset reason
-    × (text ≡ table_text gs))
+    × (text ≡ text_of gs))
+
+-- a stream is unpacked to this text: the table of its geometries
+abbrev pub UnpackTo : Allowance → List ℕ → List ℕ → Type 0
+UnpackTo = TextTo table_text
 
 -- At most one more geometry was begun, and bytes of its output are left to be written, so the
 -- output of no other geometry is whole.
@@ -105,14 +114,17 @@ Flushes contents old sending new answer =
     ⊎ ((is_spent old ≡ true) × (new ≡ old) × (answer ≡ sending))
     ⊎ ((is_spent old ≡ false) × Refused contents old [] out.Write new × (answer ≡ Err cause.WriteDevice))
 
--- the report or the fault of an answer, with the numbers of geometries and of bytes
-abbrev pub reported : ℕ → ℕ → Result (Unit {0}) Cause → Result Report ConvertFault
-reported geometries bytes (Ok done) = Ok (record { geometries = geometries; bytes = bytes })
-reported geometries bytes (Err why) = Err (record { done = geometries; sent = bytes; cause = why })
+-- the report or the fault of an answer, with the numbers of geometries and of bytes, and how much
+-- of the input was taken
+abbrev pub reported : ℕ → ℕ → ℕ → Result (Unit {0}) Cause → Result Report ConvertFault
+reported geometries bytes taken (Ok done) = Ok (record { geometries = geometries; bytes = bytes; taken = taken })
+reported geometries bytes taken (Err why) =
+    Err (record { done = geometries; sent = bytes; taken = taken; cause = why })
 
--- The output was flushed, and its bytes, this number of geometries and the answer are reported.
-pub record Finishes {W : Type 0} (contents : W → Option (List ℕ)) (old : Output W) (geometries : ℕ)
+-- The output was flushed, and its bytes, this number of geometries, what was taken for them and the
+-- answer are reported.
+pub record Finishes {W : Type 0} (contents : W → Option (List ℕ)) (old : Output W) (geometries taken : ℕ)
     (sending : Result (Unit {0}) Cause) (new : Output W) (report : Result Report ConvertFault) : Type 0 where
   pub answer : Result (Unit {0}) Cause
   pub flushes : Flushes contents old sending new answer
-  pub reports : report ≡ reported geometries (sent_of new) answer
+  pub reports : report ≡ reported geometries (sent_of new) taken answer

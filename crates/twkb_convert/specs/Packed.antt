@@ -3,7 +3,7 @@ use Rattle.std.specs.Prelude.{ℕ, List, Option, ◌≡◌, ◌+◌, ◌*◌, �
 use Rattle.twkb_io.specs.declared.tap.Tap.{Tap}
 use Rattle.twkb_tree.specs.Limits.{Allowance}
 use Rattle.twkb_grammar.specs.Items.{Stream}
-use Rattle.twkb_convert.specs.Outputs.{table_text, AtMostOneCut}
+use Rattle.twkb_convert.specs.Outputs.{table_text, geojson_text, AtMostOneCut}
 use Rattle.twkb_convert.specs.Listed.{Listed, StoppedListing}
 use Rattle.twkb_convert.specs.declared.report.Report.{Report}
 use Rattle.twkb_convert.specs.declared.report.ConvertFault.{ConvertFault}
@@ -17,32 +17,53 @@ use Rattle.twkb_io.specs.Taps.{bytes_given, device_of, failures_of}
 use Rattle.twkb_grammar.specs.Written.{canonical_stream}
 use Rattle.twkb_grammar.specs.declared.style.Style.{Style}
 use Rattle.twkb_convert.specs.Causes.{Changes, DevicesTell}
-use Rattle.twkb_convert.specs.Parts.{FrontOfBlobs, HasTooMany, IsRefusedAt, NamesAll, WholeTable}
+use Rattle.twkb_convert.specs.Parts.{FrontOfBlobs, HasTooMany, IsRefusedAt, NamesAll, WholeTable, records_of}
 use Rattle.twkb_convert.specs.declared.report.Cause.{Cause}
 use Rattle.twkb_convert.specs.declared.report.Cause.TheVariants as cause
 
 -- ==== The result of unpacking a stream.
 
--- All bytes of the reader are a stream, and the writer took the text of its table.
+-- All bytes of the reader are a stream, and the writer took the text of its table. The report has
+-- the numbers of geometries, of bytes written and of bytes taken, no device failed, and the reader
+-- is at its end.
 abbrev pub Unpacked : {R W : Type 0} → Allowance → (R → Option (List ℕ)) → (W → Option (List ℕ))
     → Tap R → Tap W → Report → Tap R → Tap W → Type 0
 Unpacked l = Listed (Stream l) table_text
 
 -- The bytes of the reader begin with blobs, and the writer took a prefix of the text of their
--- table, with all rows of the first ones.
+-- table, with all rows of the first ones. The fault has the number of these (`done`), how many
+-- bytes of the input they are (`taken`), the length of the prefix (`sent`), and a cause that
+-- explains why the writing stopped there, and agrees with the failures that the taps counted.
 abbrev pub StoppedUnpacking : {R W : Type 0} → Allowance → (R → Option (List ℕ))
     → (W → Option (List ℕ)) → Tap R → Tap W → ConvertFault → Tap R → Tap W → Type 0
 StoppedUnpacking l = StoppedListing (Stream l) (λ trees. trees) table_text l
 
+-- ==== The result of unpacking a stream as GeoJSON.
+
+-- All bytes of the reader are a stream, and the writer took the lines of its geometries. The report
+-- has the numbers of geometries, of bytes written and of bytes taken, no device failed, and the
+-- reader is at its end.
+abbrev pub UnpackedGeojson : {R W : Type 0} → Allowance → (R → Option (List ℕ)) → (W → Option (List ℕ))
+    → Tap R → Tap W → Report → Tap R → Tap W → Type 0
+UnpackedGeojson l = Listed (Stream l) geojson_text
+
+-- The bytes of the reader begin with blobs, and the writer took a prefix of the lines of their
+-- geometries, with all of the first ones. The fault is as with `StoppedUnpacking`.
+abbrev pub StoppedGeojson : {R W : Type 0} → Allowance → (R → Option (List ℕ))
+    → (W → Option (List ℕ)) → Tap R → Tap W → ConvertFault → Tap R → Tap W → Type 0
+StoppedGeojson l = StoppedListing (Stream l) (λ trees. trees) geojson_text l
+
 -- ==== The result of showing a stream.
 
--- All bytes of the reader are a stream, and the writer took the lines of its blobs.
+-- All bytes of the reader are a stream, and the writer took the lines of its blobs. The report has
+-- the numbers of geometries, of bytes written and of bytes taken, no device failed, and the reader
+-- is at its end.
 abbrev pub Shown : {R W : Type 0} → Allowance → (R → Option (List ℕ)) → (W → Option (List ℕ))
     → Tap R → Tap W → Report → Tap R → Tap W → Type 0
 Shown l = Listed (LocatedStream l 0) lines_text
 
 -- The bytes of the reader begin with blobs, and the writer took a prefix of their lines, with all
--- lines of the first ones.
+-- lines of the first ones. The fault is as with `StoppedUnpacking`.
 abbrev pub StoppedShowing : {R W : Type 0} → Allowance → (R → Option (List ℕ))
     → (W → Option (List ℕ)) → Tap R → Tap W → ConvertFault → Tap R → Tap W → Type 0
 StoppedShowing l = StoppedListing (LocatedStream l 0) geometries_of lines_text l
@@ -62,8 +83,8 @@ abbrev pub total : (Tree → ℕ) → List Tree → ℕ
 total count [] = 0
 total count (g ∷ gs) = count g + total count gs
 
--- One more geometry was measured and written, with each point read at most twice and each node at
--- most three times.
+-- One more geometry was measured and written, with at most twice as many reads of points as it has
+-- points, and at most three times as many reads of nodes as it has nodes.
 pub record AddsWork (g : Tree) (old new : Work) : Type 0 where
   pub more_points : new.points ≡ saturated (old.points + points g)
   pub more_nodes : new.nodes ≡ saturated (old.nodes + nodes g)
@@ -72,7 +93,8 @@ pub record AddsWork (g : Tree) (old new : Work) : Type 0 where
   pub node_reads : new.node_reads ≤ old.node_reads + 3 * nodes g
 
 -- The work of packing these geometries: their points, nodes and TWKB geometries, each sum capped
--- at the greatest u64, and at most two reads of each point and three of each node.
+-- at the greatest u64; at most twice as many reads of points as they have points, and at most three
+-- times as many reads of nodes as they have nodes.
 pub record IsWorkOf (gs : List Tree) (work : Work) : Type 0 where
   pub all_points : work.points ≡ saturated (total points gs)
   pub all_nodes : work.nodes ≡ saturated (total nodes gs)
@@ -93,6 +115,7 @@ pub record Packed {R W : Type 0} (style : Style) (l : Allowance) (remaining : R 
       (canonical_stream style table.geometries)
   pub count : report.geometries ≡ length table.geometries
   pub bytes : report.bytes ≡ length (canonical_stream style table.geometries)
+  pub taken : report.taken ≡ records_of table.geometries
   pub end : IsAtEnd (remaining (device_of read))
   pub reads : failures_of read ≡ failures_of reader
   pub writes : failures_of written ≡ failures_of writer
@@ -138,6 +161,7 @@ pub record StoppedPacking {R W : Type 0} (style : Style) (l : Allowance)
   pub appends : Appends (contents (device_of writer)) (contents (device_of written)) bytes
   pub sent : fault.sent ≡ length bytes
   pub done : fault.done ≡ length part.whole
+  pub taken : fault.taken ≡ records_of part.whole
   pub explains : ExplainsPackingCause style l (remaining (device_of reader)) (bytes_given read)
       fault.cause part.whole part.later part.front
   pub devices : DevicesTell Changes reader writer fault.cause read written

@@ -3,7 +3,7 @@ use Rattle.std.specs.Prelude.{◌≡◌, ℕ, List, ◌∷◌, ◌++◌, map, �
 use Rattle.twkb_tree.specs.Limits.{Allowance}
 use Rattle.twkb_grammar.specs.Noting.{moved_span}
 use Rattle.twkb_grammar.specs.declared.style.Style.{Style}
-use Rattle.twkb_table.specs.Record.{Record, header}
+use Rattle.twkb_table.specs.Record.{Record, header, table}
 use Rattle.twkb_blob.specs.declared.spans.Located.{Located}
 use Rattle.twkb_convert.specs.Listings.{lines_text}
 use Rattle.twkb_convert.specs.Outputs.{NamesSome, PackTo, AtMostOneCut}
@@ -118,3 +118,20 @@ pub record FrontOfText {A : Type 0} (AreBlobs : List ℕ → List A → Type 0)
   pub cut : text_of (whole ++ later) ≡ written ++ left
   pub one : AtMostOneCut later left
   pub holds : HoldsWhole text_of written whole
+
+-- ==== How much of the input the geometries of an output are.
+
+-- The first of these bytes, so many, are these blobs.
+pub record TakesBlobs {A : Type 0} (AreBlobs : List ℕ → List A → Type 0) (bytes : List ℕ) (whole : List A)
+    (taken : ℕ) : Type 0 where
+  pub front : List ℕ
+  pub rest : List ℕ
+  pub cut : bytes ≡ front ++ rest
+  pub blobs : AreBlobs front whole
+  pub taken_is : taken ≡ length front
+
+-- the number of records of the table of these geometries, with its header; none if there are no
+-- geometries
+abbrev pub records_of : List Tree → ℕ
+records_of [] = 0
+records_of (g ∷ gs) = length (table (g ∷ gs))

@@ -1,8 +1,9 @@
 -- How far the geometries of a table were sent, and the blob of each.
 use Rattle.std.specs.Prelude.{◌≡◌, ℕ, ◌<◌, ◌≤◌, ◌-◌, ◌^◌, List, [], length, Option, Result, Ok, Err, false, ◌⊎◌}
+use Rattle.std.specs.Prelude.{◌+◌, cond, nat_eq}
 use Rattle.twkb_io.specs.Outputs.{Took, is_spent, sent_of, Cut}
 use Rattle.twkb_io.specs.declared.output.Output.{Output}
-use Rattle.twkb_tree.specs.Tree.{Tree}
+use Rattle.twkb_tree.specs.Tree.{Tree, nodes, saturated}
 use Rattle.twkb_tree.specs.Limits.{Allowance}
 use Rattle.twkb_flat.specs.declared.work.Work.{Work}
 use Rattle.twkb_grammar.specs.Written.{canonical_stream, canonical_blob}
@@ -10,9 +11,9 @@ use Rattle.twkb_grammar.specs.declared.style.Style.{Style}
 use Rattle.twkb_table.specs.Record.{Record}
 use Rattle.twkb_table.specs.TableReading.{StandsAfter}
 use Rattle.twkb_table.specs.declared.table_reader.TableReader.{TableReader}
-use Rattle.twkb_convert.specs.Packed.{IsWorkOf, AddsWork, ExplainsPackingCause}
+use Rattle.twkb_convert.specs.Packed.{IsWorkOf, AddsWork, ExplainsPackingCause, total}
 use Rattle.twkb_convert.specs.Outputs.{Leaves, AtMostOneCut}
-use Rattle.twkb_convert.specs.Parts.{FrontOfBlobs, WholeTable}
+use Rattle.twkb_convert.specs.Parts.{FrontOfBlobs, WholeTable, records_of}
 use Rattle.twkb_convert.specs.declared.report.Cause.{Cause}
 use Rattle.twkb_convert.specs.declared.sent_geometries.Sent.{Sent}
 use Rattle.twkb_convert.specs.declared.report.Cause.TheVariants as cause
@@ -20,6 +21,11 @@ use Rattle.twkb_io.specs.declared.output.OutFault.{OutFault}
 use Rattle.twkb_convert.specs.Causes.{cause_of_output}
 
 -- ==== How far the geometries of a table were sent.
+
+-- the number of records of so many geometries with so many rows, with that of the header; none of no
+-- geometry
+abbrev pub records_with : (geometries rows : ℕ) → ℕ
+records_with geometries rows = cond (nat_eq geometries 0) 0 (saturated (rows + 1))
 
 -- The geometries of the table so far were sent, by an output that had sent nothing before.
 pub record SentSoFar {R W : Type 0} (style : Style) (l : Allowance)
@@ -30,6 +36,7 @@ pub record SentSoFar {R W : Type 0} (style : Style) (l : Allowance)
   pub stands : StandsAfter l remaining told records geometries table
   pub took : Took contents old (canonical_stream style geometries) new
   pub count : sent.geometries ≡ length geometries
+  pub rows_is : sent.rows ≡ saturated (total nodes geometries)
   pub work_of : IsWorkOf geometries sent.work
   pub fresh : is_spent old ≡ false
   pub unsent : sent_of old ≡ 0
@@ -60,6 +67,7 @@ pub record SendsTable {W : Type 0} (style : Style) (l : Allowance) (contents : W
   pub one : AtMostOneCut part.later part.rest
   pub leaves : Leaves contents old bytes new answer
   pub count : sent.geometries ≡ length part.whole
+  pub taken_is : records_with sent.geometries sent.rows ≡ records_of part.whole
   pub ends : Ends style l told given sent.work part.whole part.later part.front answer
 
 -- what was sent up to the first state goes on to the second
@@ -76,6 +84,10 @@ EndsAfter {R} {W} style remaining contents from old before new after answer = (l
     (told : Option (List ℕ)) (given : ℕ) (first : Output W)
     → SentSoFar style l remaining contents told from first old before
     → SendsTable style l contents told given first new after answer
+
+-- what was sent, with the rows of the points among it that were sent since this state, one each
+abbrev pub with_rows : Sent → Sent → Sent
+with_rows before sent = record sent { rows = saturated (before.rows + (sent.geometries - before.geometries)) }
 
 -- the result of sending the points that wait, after which one more geometry can be counted
 abbrev pub SendsPoints : {R W : Type 0} → Style → (R → Option (List ℕ)) → (W → Option (List ℕ)) → TableReader R

@@ -1,15 +1,19 @@
-//! The texts that are made of a stream's blobs: rows of a table, or lines of headers.
-ghost use Rattle.std.specs.Prelude.{◌≡◌, []};
+//! The texts that are made of the geometries of a stream's blobs: rows of a table, or lines of
+//! GeoJSON.
+ghost use Rattle.std.specs.Prelude.{◌≡◌, [], ◌++◌, OnOk};
+ghost use Rattle.twkb_tree.specs.Tree.{Tree, IsTree};
+ghost use Rattle.twkb_tree.specs.Rows.{rows};
+ghost use Rattle.twkb_geojson.specs.Value.{line_of};
 ghost use Rattle.twkb_blob.specs.StreamReaders.{reader_in};
 ghost use Rattle.twkb_convert.specs.Listed.{IsBetween, ReadsText};
 ghost use Rattle.twkb_convert.specs.Listings.{Layout};
 
 use crate::report::Cause;
-use crate::span_line::put_lines;
 use std::alloc::AllocError;
 use std::io::Read;
-use twkb_blob::{Spans, StreamReader};
-use twkb_flat::Work;
+use twkb_blob::StreamReader;
+use twkb_flat::{Rows, Work};
+use twkb_geojson::put_geojson;
 use twkb_table::{header_text, put_flat_rows};
 
 // Makes the text of each blob of a stream.
@@ -42,7 +46,7 @@ const FIRST_ROOM: usize = 128;
 // blob: a text that grew from nothing would ask for memory several times. Takes memory; after an
 // `Err` the text is empty.
 #[inline(always)]
-fn make_room(text: &mut Vec<u8>) -> Result<(), AllocError>
+pub(crate) fn make_room(text: &mut Vec<u8>) -> Result<(), AllocError>
     ensures empty { text.new.items ≡ [] }
 {
     text.clear();
@@ -79,11 +83,14 @@ impl BlobText for TableRows {
     }
 }
 
-// The lines of a stream's headers, made from the spans of each blob, which replace those held.
-impl BlobText for Spans {
-    ghost use Rattle.twkb_convert.specs.Listings.{lines_layout};
+// The GeoJSON of a stream: the text of each blob's geometry, in a line.
+#[derive(Drop)]
+pub(crate) struct GeojsonLines;
 
-    ghost layout = { lines_layout };
+impl BlobText for GeojsonLines {
+    ghost use Rattle.twkb_convert.specs.Listings.{geojson_layout};
+
+    ghost layout = { geojson_layout };
 
     fn first_line() -> &'static [u8] {
         b""
@@ -94,11 +101,23 @@ impl BlobText for Spans {
         blobs: &mut StreamReader<'_, '_, R>,
         text: &mut Vec<u8>,
     ) -> Result<bool, Cause> {
-        if !blobs.next_spans(self)? {
+        if !blobs.next()? {
             return Ok(false);
         }
         make_room(text)?;
-        put_lines(self.as_slice(), text)?;
+        put_geojson_line(blobs.rows(), text)?;
         Ok(true)
     }
+}
+
+// Appends the text of the geometry whose rows a form has, and LF. Takes memory; after an `Err` a
+// prefix of the line may be appended.
+#[inline(always)]
+fn put_geojson_line(form: &Rows, text: &mut Vec<u8>) -> Result<(), AllocError>
+    ensures { OnOk result ((g : Tree) → IsTree g → rows 0 g ≡ form.now.flat
+        → text.new.items ≡ text.old.items ++ line_of g) }
+{
+    put_geojson(form, text)?;
+    text.push(b'\n')?;
+    Ok(())
 }

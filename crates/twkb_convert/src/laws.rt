@@ -1,5 +1,5 @@
 //! Laws of the conversions, each stated as the contract of an empty function.
-ghost use Rattle.std.specs.Prelude.{◌≡◌, ◌++◌, ◌∷◌, [], ℕ, List, length, Some};
+ghost use Rattle.std.specs.Prelude.{◌≡◌, ◌≢◌, ◌++◌, ◌∷◌, [], ℕ, List, drop, length, Some};
 ghost use Rattle.twkb_io.specs.Inputs.{BeginsWith};
 ghost use Rattle.twkb_tree.specs.Tree.{Tree};
 ghost use Rattle.twkb_tree.specs.Limits.{Allowance, IsAllowance};
@@ -14,9 +14,10 @@ ghost use Rattle.twkb_table.specs.declared.reason.RowReason.{RowReason};
 ghost use Rattle.twkb_table.specs.CsvRecords.{AreRecordsOf};
 ghost use Rattle.twkb_blob.specs.declared.spans.Located.{Located};
 ghost use Rattle.twkb_convert.specs.Parts.{FrontOfBlobs, AreMovedLines, PackApart, RowsName, all_moved};
-ghost use Rattle.twkb_convert.specs.Parts.{IsRefusedText};
+ghost use Rattle.twkb_convert.specs.Parts.{IsRefusedText, TakesBlobs, records_of};
 ghost use Rattle.twkb_convert.specs.Listings.{LocatedStream, ShowTo, geometries_of, lines_text};
-ghost use Rattle.twkb_convert.specs.Outputs.{IsTable, PackTextTo, PackTo, UnpackTo, table_text};
+ghost use Rattle.twkb_convert.specs.Outputs.{IsTable, PackTextTo, PackTo, TextTo, UnpackTo, geojson_text};
+ghost use Rattle.twkb_convert.specs.Outputs.{table_text};
 
 /// If a table's records are those of geometries valid under given limits, packing the table, in
 /// either style, and unpacking the result, both under these limits, gives a table from which `csv`
@@ -130,6 +131,13 @@ pub fn unpacked_parts()
         → UnpackTo l a table → UnpackTo l b (csvtext (header ∷ []) ++ rows) → UnpackTo l (a ++ b) (table ++ rows) }
 {}
 
+/// Bytes that begin with a stream may be written as GeoJSON in two parts under the same limits: the
+/// output is the stream's lines, and then those of the other bytes.
+pub fn geojson_parts()
+    ensures { (l : Allowance) (a b : List ℕ) (gs : List Tree) (lines : List ℕ) → Stream l a gs
+        → TextTo geojson_text l b lines → TextTo geojson_text l (a ++ b) (geojson_text gs ++ lines) }
+{}
+
 /// Bytes that begin with a stream may be shown in two parts under the same limits: the output is
 /// the stream's lines, and then those of the other bytes, with the stream's length added to each
 /// offset. If the other bytes are a stream too, all bytes have the blobs and spans of the first
@@ -141,4 +149,22 @@ pub fn shown_parts()
         → Stream l a gs → ShowTo l a first
         → ShowTo l b second → (later : List ℕ) × AreMovedLines (length a) second later
         × ShowTo l (a ++ b) (first ++ later) }
+{}
+
+/// What is left of an input after what a conversion took is converted to the rest of the output. Of
+/// a stream that is unpacked, these are the rows below the header's line; of one that is shown, the
+/// lines with the number of bytes taken added to each offset; of a table that names geometries, the
+/// blobs of the other records below its header, if the blob of one geometry or more is whole.
+pub fn rest_of_input()
+    ensures unpacked { (l : Allowance) (stream rows : List ℕ) (whole : List Tree) (taken : ℕ)
+        → TakesBlobs (Stream l) stream whole taken
+        → UnpackTo l (drop taken stream) (csvtext (header ∷ []) ++ rows)
+        → UnpackTo l stream (table_text whole ++ rows) }
+    ensures shown { (l : Allowance) (stream lines : List ℕ) (whole : List Located) (taken : ℕ)
+        → TakesBlobs (LocatedStream l 0) stream whole taken → ShowTo l (drop taken stream) lines
+        → (later : List ℕ) × AreMovedLines taken lines later × ShowTo l stream (lines_text whole ++ later) }
+    ensures packed { (style : Style) (l : Allowance) (text written rest : List ℕ) (records : List Record)
+        → IsAllowance l → IsTable l text records → (part : FrontOfBlobs style l (Some text) written)
+        → part.whole ≢ [] → PackTo style l (header ∷ drop (records_of part.whole) records) rest
+        → PackTo style l records (canonical_stream style part.whole ++ rest) }
 {}

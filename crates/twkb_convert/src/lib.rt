@@ -3,18 +3,20 @@
 
 mod blob_text;
 mod causes;
-mod conversion;
+mod collection;
 mod last_flush;
 pub mod laws;
 mod listed_stream;
 mod packed_table;
 mod report;
 mod sent_geometries;
+mod span_bytes;
 mod span_line;
+mod span_texts;
 mod version;
 
-pub use conversion::{Conversion, convert};
-pub use listed_stream::{show, unpack};
+pub use collection::unpack_collection;
+pub use listed_stream::{headers, show, unpack, unpack_geojson};
 pub use packed_table::{pack, pack_counted, pack_styled};
 pub use report::{Cause, ConvertFault, Report};
 pub use twkb_blob::BlobReason;

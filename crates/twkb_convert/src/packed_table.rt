@@ -5,6 +5,7 @@ ghost use Rattle.twkb_grammar.specs.declared.style.Style.TheVariants.{Full};
 ghost use Rattle.twkb_convert.specs.Outputs.{IsFlushedButForDevices};
 ghost use Rattle.twkb_convert.specs.Packed.{Packed, PackedWith, StoppedPacking};
 ghost use Rattle.twkb_convert.specs.Causes.{Drains};
+ghost use Rattle.twkb_convert.specs.SentGeometries.{records_with};
 
 use crate::causes::after_reads;
 use crate::last_flush::finish;
@@ -12,8 +13,7 @@ use crate::report::{Cause, ConvertFault, Report};
 use crate::sent_geometries::{Room, Sent, send_table};
 use std::alloc::Global;
 use std::io::{Read, Write};
-use twkb_flat::Work;
-use twkb_flat::laws::reads_fit;
+use twkb_flat::{Work, reads_fit};
 use twkb_io::{Output, Tap};
 use twkb_table::TableReader;
 use twkb_tree::Limits;
@@ -40,13 +40,14 @@ pub fn pack<R: Read, W: Write>(
 /// canonical blob of each geometry when the row after it was accepted or the table's end was
 /// reached (records: RFC 4180; their polylines: Encoded Polyline Algorithm Format; blobs: TWKB; the
 /// columns, and which blob is canonical: profile). Returns how many geometries and bytes were
-/// written, and with an `Err` why it stopped. A record that is refused, as one past the limits is,
-/// stops it; the geometry before that record is not written, since the record might have belonged
-/// to it. The writer is flushed last, unless it failed or more than 2^62 bytes would be written.
-/// Takes memory for the reader of `csv`, one record, one geometry with its sizes, and the points of
-/// the next root. After the table's end, the reader is read again until it gives no byte, and what
-/// it gives is dropped: wrap a reader that may go on after an end, such as a terminal, in
-/// `twkb_io::Ending`.
+/// written and how many records of the input they took (`taken`), and with an `Err` why it stopped.
+/// A record that is refused, as one past the limits is, stops it; the geometry before that record
+/// is not written, since the record might have belonged to it. The writer is flushed last, unless
+/// it failed or more than 2^62 bytes would be written. Takes memory for the reader of `csv`, one
+/// record, one geometry with its sizes, and the points of the next root: up to 8 MiB, or all if the
+/// geometry before it is a single point. After the table's end, the reader is read again until it
+/// gives no byte, and what it gives is dropped: wrap a reader that may go on after an end, such as
+/// a terminal, in `twkb_io::Ending`.
 pub fn pack_styled<R: Read, W: Write>(
     alloc: Global,
     reader: &mut Tap<R>,
@@ -84,6 +85,7 @@ pub fn pack_counted<R: Read, W: Write>(
     let mut room = Room::new(alloc);
     let mut sent = Sent {
         geometries: 0,
+        rows: 0,
         work: Work::new(),
     };
     let sending = {
@@ -92,9 +94,22 @@ pub fn pack_counted<R: Read, W: Write>(
     };
     let drained = drain(reader, sending);
     let answer = after_reads(drained, reader.failures() != failures);
-    let report = finish(&mut output, sent.geometries, answer)?;
+    let taken = records_taken(&sent);
+    let report = finish(&mut output, sent.geometries, taken, answer)?;
     reads_fit(sent.work);
     Ok((report, sent.work))
+}
+
+// The number of records of the geometries that were sent, with that of the header; 0 if there are
+// none.
+fn records_taken(sent: &Sent) -> u64
+    ensures { result ≡ records_with sent.now.geometries sent.now.rows }
+{
+    if sent.geometries == 0 {
+        0
+    } else {
+        sent.rows.saturating_add(1)
+    }
 }
 
 // The number of bytes that one read asks for.

@@ -13,6 +13,9 @@ pub struct Report {
     pub geometries: u64,
     /// The number of bytes written.
     pub bytes: u64,
+    /// How much of the input the geometries are: bytes of a stream; records of a table with that of
+    /// its header, or 0 if there is no geometry.
+    pub taken: u64,
 }
 
 /// Why a conversion stopped.
@@ -66,6 +69,8 @@ pub struct ConvertFault {
     pub done: u64,
     /// The number of bytes that the writer took.
     pub sent: u64,
+    /// How much of the input the geometries in `done` are, as `Report` counts it.
+    pub taken: u64,
     /// Why the conversion stopped.
     pub cause: Cause,
 }

@@ -1,8 +1,8 @@
 //! The geometries of a table, sent one after another.
-ghost use Rattle.std.specs.Prelude.{◌≡◌, OnOk, IfErr};
+ghost use Rattle.std.specs.Prelude.{◌≡◌, ◌≤◌, OnOk, IfErr};
 ghost use Rattle.twkb_tree.specs.Tree.{Tree, IsTree};
 ghost use Rattle.twkb_tree.specs.Rows.{rows};
-ghost use Rattle.twkb_convert.specs.SentGeometries.{EndsAfter, SendsPoints, CutsBlob, WritesBlob};
+ghost use Rattle.twkb_convert.specs.SentGeometries.{EndsAfter, SendsPoints, CutsBlob, WritesBlob, with_rows};
 
 use crate::report::Cause;
 use std::alloc::Global;
@@ -33,11 +33,12 @@ impl Room {
     }
 }
 
-// The number of geometries that were sent whole, and the work of measuring and writing them; after
-// an `Err` the work may include some of one that was cut.
+// The number of geometries that were sent whole, that of their rows, and the work of measuring and
+// writing them; after an `Err` the work may include some of one that was cut.
 #[derive(Drop)]
 pub(crate) struct Sent {
     pub(crate) geometries: u64,
+    pub(crate) rows: u64,
     pub(crate) work: Work,
 }
 
@@ -64,15 +65,16 @@ pub(crate) fn send_table<R: Read, W: Write>(
         }
         write_blob(style, room, output, &mut sent.work)?;
         sent.geometries += 1;
+        sent.rows = sent.work.nodes;
     }
     Err(Cause::TooLong)
 }
 
 // Fast path: sends the geometries that come next, as long as they are known to be points that are
-// not empty, and adds them and their work to `sent`. An `Err`, and what `sent` must count, are as
-// with `send_table`. Takes memory as `TableReader::next_point` does. Out of line, and a loop of its
-// own: inlined, it adds 1 in 100 to the instructions of other geometries; a call for each point
-// adds 150 instructions to each point.
+// not empty, and adds them, their rows and their work to `sent`. An `Err`, and what `sent` must
+// count, are as with `send_table`. Takes memory as `TableReader::next_point` does. Out of line, and
+// a loop of its own: inlined, it adds 1 in 100 to the instructions of other geometries; a call for
+// each point adds 150 instructions to each point.
 #[inline(never)]
 fn send_points<R: Read, W: Write>(
     table: &mut TableReader<'_, R>,
@@ -83,6 +85,27 @@ fn send_points<R: Read, W: Write>(
 ) -> Result<(), Cause>
     ensures sends { SendsPoints style R.remaining W.contents table.old output.old sent.old table.new output.new
         sent.new result }
+{
+    let before = sent.geometries;
+    let sending = send_each_point(table, style, room, output, sent);
+    sent.rows = sent.rows.saturating_add(sent.geometries - before);
+    sending
+}
+
+// The loop of `send_points`. It leaves the number of rows to its caller, who knows it at the end:
+// each point has one row.
+#[inline(always)]
+fn send_each_point<R: Read, W: Write>(
+    table: &mut TableReader<'_, R>,
+    style: Style,
+    room: &mut Room,
+    output: &mut Output<'_, W>,
+    sent: &mut Sent,
+) -> Result<(), Cause>
+    ensures sends { SendsPoints style R.remaining W.contents table.old output.old sent.old table.new output.new
+        (with_rows sent.old sent.new) result }
+    ensures no_fewer { sent.old.geometries ≤ sent.new.geometries }
+    ensures same_rows { sent.new.rows ≡ sent.old.rows }
 {
     while sent.geometries < u64::MAX {
         let Some(found) = table.next_point()? else {
@@ -119,14 +142,23 @@ fn write_blob<W: Write>(
 {
     twkb_tree::laws::nodes_are_rows();
     twkb_writer::laws::one_size_each();
-    measure_into(&room.form, style, &mut room.depths, &mut room.sizes, work)?;
+    // a copy, so that the counts stay in registers: `work` is in the caller's memory
+    let mut counted = *work;
+    measure_into(
+        &room.form,
+        style,
+        &mut room.depths,
+        &mut room.sizes,
+        &mut counted,
+    )?;
     write_through(
         &room.form,
         style,
         &room.sizes,
         &mut room.piece,
         output,
-        work,
+        &mut counted,
     )?;
+    *work = counted;
     Ok(())
 }

@@ -1,7 +1,7 @@
-//! The lines that `show` prints, one for each span.
+//! The line that `show` prints for a span.
 ghost use Rattle.std.specs.Prelude.{◌≡◌, ◌<◌, ◌≤◌, ◌+◌, [], ◌∷◌, ◌++◌, OnOk, decimal, length, true};
 ghost use Rattle.std.specs.Fmt.{digit_glyph, signed_decimal};
-ghost use Rattle.twkb_convert.specs.Listings.{Adds, span_line, span_lines};
+ghost use Rattle.twkb_convert.specs.Listings.{Adds, span_line};
 
 use itoa::{Buffer, Integer};
 use std::alloc::AllocError;
@@ -9,21 +9,10 @@ use twkb_blob::Span;
 use twkb_num::Piece;
 use twkb_table::push_kind;
 
-// Appends the lines of spans, one for each, in order. Takes memory; after an `Err` the lines
-// appended so far stay.
-pub(crate) fn put_lines(spans: &[Span], text: &mut Vec<u8>) -> Result<(), AllocError>
-    ensures appended { OnOk result (text.new.items ≡ text.old.items ++ span_lines spans.now) }
-{
-    for span in spans {
-        put_line(span, text)?;
-    }
-    Ok(())
-}
-
 // Appends the line of a span: its level, offset, kind, precision, metadata byte in hexadecimal,
-// length and number of points, with a space between them and LF at the end. Takes memory; an `Err`
-// leaves the text as it was. The seven words and their ends have at most 124 bytes.
-fn put_line(span: &Span, text: &mut Vec<u8>) -> Result<(), AllocError>
+// length and number of points, with a space between them and LF at the end. Takes memory. The seven
+// words and their ends have at most 124 bytes.
+pub(crate) fn put_line(span: &Span, text: &mut Vec<u8>) -> Result<(), AllocError>
     ensures appended { OnOk result (text.new.items ≡ text.old.items ++ span_line span.now) }
 {
     let mut line = Piece::<128>::new();

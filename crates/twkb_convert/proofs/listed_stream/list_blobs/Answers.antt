@@ -9,12 +9,12 @@ pub returns-in_err-put : goal.returns-in_err-put
 returns-in_err-put g c =
     let p = err_from_is_err_and c.from_residual.result c.from_residual.ensures.1 in
     rw (p.1, p.2) (record {
-      lists = lists_none c.requires.none c.first_line.ensures.text c.requires.fresh
+      lists = lists_none c.requires.none c.requires.nothing c.first_line.ensures.text c.requires.fresh
           c.in_err-put.ensures.cut;
     })
 
 pub loop-output-init : goal.loop-output-init
-loop-output-init g c = sent_first c.requires.none c.requires.fresh
+loop-output-init g c = sent_first c.requires.none c.requires.nothing c.requires.fresh
     (subst (λ text. Took g.W.Write.contents c.args.output.now text c.put.new.self) c.first_line.ensures.text
     c.in_ok-put.ensures.ok)
 
@@ -42,8 +42,8 @@ loop-output-smaller g c =
 pub loop-output-preserved : goal.loop-output-preserved
 loop-output-preserved g c =
     let found : c.in_ok-read_next.field-0 ≡ true = search rules in
-    sent_more c.loop-output.invariant (rw found at c.in_ok-read_next.ensures.reads)
-    (rw c.as_slice.ensures.value at c.in_ok-put-2.ensures.ok)
+    rw c.offset.ensures (sent_more c.loop-output.invariant (rw found at c.in_ok-read_next.ensures.reads)
+    (rw c.as_slice.ensures.value at c.in_ok-put-2.ensures.ok))
 
 pub returns : goal.returns
 returns g c =

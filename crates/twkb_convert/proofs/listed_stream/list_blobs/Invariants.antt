@@ -8,7 +8,7 @@ use Rattle.twkb_convert.proofs.listed_stream.list_blobs.Given as goal
 -- the texts of the blobs so far were sent, and nothing was refused
 abbrev pub invariant-loop-output : goal.invariant-loop-output
 invariant-loop-output g l = SentSoFar g.T.BlobText.layout g.W.Write.contents (reader_in l.fn.blobs) l.fn.output
-    (reader_in l.blobs) l.output l.done
+    (reader_in l.blobs) l.output l.done l.taken
 
 -- the number of bytes that may still be given out
 abbrev pub decreases-loop-output : goal.decreases-loop-output

@@ -11,6 +11,7 @@ list_blobs-sending-requires g c = record {
     unsent = search rules;
   };
   none = refl;
+  nothing = refl;
 }
 
 pub returns-clause-ok : goal.returns-clause-ok

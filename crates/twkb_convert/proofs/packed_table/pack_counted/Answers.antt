@@ -12,7 +12,8 @@ returns-in_err-report-clause-err g c =
     let sends = sends_drained _ _ _ c.drain-drained.ensures.drains
     (c.send_table-sending.ensures.ends c.args.limits _ _ _
     (sent_none c.new.ensures (search rules) (search rules) c.new-table.ensures)) in
-    let finishes = rw c.after_reads-answer.ensures at c.in_err-report.ensures.finishes in
+    let finishes = rw (c.after_reads-answer.ensures, c.records_taken-taken.ensures)
+    at c.in_err-report.ensures.finishes in
     rw (p.1, p.2) (stopped_packing g.R.Read.remaining _ _ _ _ _ _
     (changes_as c.failures-failures.result c.failures.result _ _ c.failures-failures.ensures c.failures.ensures)
     (drained _ _ _ _ c.drain-drained.ensures.drains) finishes sends (search rules) (search rules)
@@ -24,7 +25,8 @@ returns-in_err-report-clause-flushed g c =
     let sends = sends_drained _ _ _ c.drain-drained.ensures.drains
     (c.send_table-sending.ensures.ends c.args.limits _ _ _
     (sent_none c.new.ensures (search rules) (search rules) c.new-table.ensures)) in
-    let finishes = rw c.after_reads-answer.ensures at c.in_err-report.ensures.finishes in
+    let finishes = rw (c.after_reads-answer.ensures, c.records_taken-taken.ensures)
+    at c.in_err-report.ensures.finishes in
     rw (p.1, p.2) (λ no_write no_read no_length.
     let held : has_unflushed (output_tap c.finish.new.output).now ≡ false = flushed_err _ _ finishes
     sends.leaves.unspent _ refl _ refl no_write no_read no_length in search rules)
@@ -34,7 +36,8 @@ returns-clause-ok g c =
     let sends = sends_drained _ _ _ c.drain-drained.ensures.drains
     (c.send_table-sending.ensures.ends c.args.limits _ _ _
     (sent_none c.new.ensures (search rules) (search rules) c.new-table.ensures)) in
-    let finishes = rw c.after_reads-answer.ensures at c.in_ok-report.ensures.finishes in
+    let finishes = rw (c.after_reads-answer.ensures, c.records_taken-taken.ensures)
+    at c.in_ok-report.ensures.finishes in
     packed_with g.R.Read.remaining _ _ _ _ _ _
     (changes_as c.failures-failures.result c.failures.result _ _ c.failures-failures.ensures c.failures.ensures)
     (drained _ _ _ _ c.drain-drained.ensures.drains) finishes sends (search rules) (search rules)
@@ -45,6 +48,7 @@ returns-clause-flushed g c =
     let sends = sends_drained _ _ _ c.drain-drained.ensures.drains
     (c.send_table-sending.ensures.ends c.args.limits _ _ _
     (sent_none c.new.ensures (search rules) (search rules) c.new-table.ensures)) in
-    let finishes = rw c.after_reads-answer.ensures at c.in_ok-report.ensures.finishes in
+    let finishes = rw (c.after_reads-answer.ensures, c.records_taken-taken.ensures)
+    at c.in_ok-report.ensures.finishes in
     let held : has_unflushed (output_tap c.finish.new.output).now ≡ false = flushed_ok _ _ finishes
     sends.leaves.unspent _ refl _ refl in search rules

@@ -1,47 +1,12 @@
-use Rattle.std.proofs.Common.{rules, arith, refl, SFits, w8}
-use Rattle.std.proofs.lemmas.Int.{to_z-of_z}
-use Rattle.std.proofs.lemmas.Result.{err_from_is_err_and}
-use Rattle.twkb_io.specs.Outputs.{cut_front}
-use Rattle.twkb_convert.proofs.SendingLemmas.{cuts_point, writes_point, ends_cut, ends_fault, ends_uncounted, sent_more}
+use Rattle.std.proofs.Common.{rules}
+use Rattle.twkb_convert.proofs.SendingLemmas.{rows_counted}
 use Rattle.twkb_convert.proofs.sent_geometries.send_points.Goals as goal
-
-pub returns-in_err-found : goal.returns-in_err-found
-returns-in_err-found g c =
-    let p = err_from_is_err_and c.from_residual.result c.from_residual.ensures.1 in
-    rw (p.1, p.2) (record {
-      sends = λ l told given first s.
-          let so = c.loop-sent.invariant.sends l told first s in
-          ends_fault so _ given _ refl
-          (c.in_err-found.ensures.fault l told so.records so.geometries so.stands);
-    })
-
-pub returns-in_err-write_point : goal.returns-in_err-write_point
-returns-in_err-write_point g c =
-    let p = err_from_is_err_and c.from_residual-in_err-write_point.result
-    c.from_residual-in_err-write_point.ensures.1 in
-    rw (p.1, p.2) (record {
-      sends = λ l told given first s.
-          let so = c.loop-sent.invariant.sends l told first s in
-          let gives = (rw c.in-Some.is at c.in_ok-found.ensures.gives) l told so.records so.geometries so.stands in
-          let range : SFits w8 c.in-Some.found.0 = search rules in
-          let cut = simp (to_z-of_z w8 c.in-Some.found.0 range) at c.in_err-write_point.ensures.err in
-          ends_cut so _ given gives refl
-          (cuts_point gives c.args.style (λ fits. cut_front g.W.Write.contents _ _ _ _ (cut fits)));
-    })
-
-pub loop-sent-preserved : goal.loop-sent-preserved
-loop-sent-preserved g c = record {
-  no_fewer = (let most = c.loop-sent.invariant.no_fewer in omega (arith, most));
-  sends = λ l told first s.
-      let so = c.loop-sent.invariant.sends l told first s in
-      let gives = (rw c.in-Some.is at c.in_ok-found.ensures.gives) l told so.records so.geometries so.stands in
-      let range : SFits w8 c.in-Some.found.0 = search rules in
-      let took = simp (to_z-of_z w8 c.in-Some.found.0 range) at c.in_ok-write_point.ensures.ok in
-      sent_more so _ gives refl (writes_point gives took c.write_point.ensures.work);
-}
 
 pub returns : goal.returns
 returns g c = record {
-  sends = λ l told given first s. ends_uncounted (c.loop-sent.invariant.sends l told first s) given
-      (let all = c.loop-sent-test.false in omega (arith, all));
+  sends = rows_counted c.args.style g.R.Read.remaining g.W.Write.contents c.args.table.now
+      c.send_each_point-sending.new.table _ c.args.output.now c.send_each_point-sending.new.output _ c.args.sent.now
+      c.send_each_point-sending.new.sent _ c.send_each_point-sending.result (search rules) (search rules)
+      c.send_each_point-sending.ensures.same_rows (search rules) (search rules) (search rules)
+      c.send_each_point-sending.ensures.sends;
 }

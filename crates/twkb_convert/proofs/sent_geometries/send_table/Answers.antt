@@ -16,7 +16,7 @@ returns-in_err-next_flat g c =
                 (w.in_ok-send_points.ensures.sends.2 l told first (c.loop-sent.invariant l told first s))
             | else-has_point w ↦ rw (w.table-is, w.output-is, w.sent-is) (c.loop-sent.invariant l told first s)
           ] in
-          ends_fault sent _ given _ refl
+          ends_fault sent _ given _ refl refl
           (c.in_err-next_flat.ensures.fault l told sent.records sent.geometries sent.stands);
     })
 
@@ -45,7 +45,7 @@ returns-in_err-write_blob g c =
             | else-has_point w ↦ rw (w.table-is, w.output-is, w.sent-is) (c.loop-sent.invariant l told first s)
           ] in
           let gives = c.in_ok-next_flat.ensures.gives (search rules) l told sent.records sent.geometries sent.stands in
-          ends_blob sent _ given gives refl
+          ends_blob sent _ given gives refl refl
           (c.in_err-write_blob.ensures.err gives.geometry gives.valid.tree gives.rows);
     })
 
@@ -58,7 +58,7 @@ loop-sent-preserved g c = λ l told first s.
       | else-has_point w ↦ rw (w.table-is, w.output-is, w.sent-is) (c.loop-sent.invariant l told first s)
     ] in
     let gives = c.in_ok-next_flat.ensures.gives (search rules) l told sent.records sent.geometries sent.stands in
-    sent_more sent _ gives refl
+    sent_more sent _ gives refl refl
     (c.in_ok-write_blob.ensures.ok gives.geometry gives.valid.tree gives.rows)
 
 pub returns : goal.returns

@@ -1,9 +1,0 @@
-use Rattle.std.proofs.Common.{arith}
-use Rattle.std.proofs.lemmas.Grind.{common_steps}
-use Rattle.twkb_convert.proofs.span_line.put_lines.Goals as goal
-
-pub returns : goal.returns
-returns c = grind (arith, common_steps)
-
-pub loop-span-preserved : goal.loop-span-preserved
-loop-span-preserved c = grind (arith, common_steps)

@@ -1,0 +1,16 @@
+pub mod DigitLemmas
+pub mod SizeLemmas
+pub mod TableLemmas
+pub mod NearLemmas
+pub mod ReadingLemmas
+pub mod PrintLemmas
+pub mod NumberLemmas
+pub mod ValueLemmas
+pub mod ListLemmas
+pub mod UnitsLemmas
+pub mod ObjectLemmas
+pub mod FlatLemmas
+pub mod CollectionLemmas
+pub mod ReadBackLemmas
+pub mod EvenLemmas
+pub mod NameLemmas
