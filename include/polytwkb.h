@@ -2,6 +2,8 @@
  * polytwkb: geometries as streams of TWKB blobs, as tables of encoded polylines, and as arrays of rows and points; from
  * a buffer to a buffer.
  *
+ *   polytwkb_convert                  a conversion by its number, any of POLYTWKB_PACK and so on
+ *   polytwkb_convert_column           a column of a CSV to a stream of blobs, and back
  *   polytwkb_pack, polytwkb_unpack    a table (CSV) to a stream of blobs, and back
  *   polytwkb_write, polytwkb_read     arrays of rows and points to a stream of blobs, and back
  *   polytwkb_show, polytwkb_measure   the headers of a stream; the size of an output
@@ -18,14 +20,16 @@
  *
  * The library is proved: what each call writes, and what its report says, is the contract of its function in
  * crates/twkb_c. It keeps nothing between calls, opens no file and prints nothing. It takes memory by malloc, realloc
- * and free, for one geometry at a time, and gives all of it back. Calls in several threads at once do not disturb one
- * another if their outputs are apart. No call may be made from a signal handler.
+ * and free, for one geometry at a time, and gives all of it back. To pack it also takes memory for one record and its
+ * points: for up to 8 MiB of them while the geometry before it is held, or for all if that is a single point. Calls in
+ * several threads at once do not disturb one another if their outputs are apart. No call may be made from a signal
+ * handler.
  *
  * Of the caller's side nothing is checked:
  * - A length counts the items of a buffer: bytes, rows, points or numbers. All of them together have at most 2^63 - 1
  *   bytes, so SIZE_MAX is the room of no buffer.
- * - No output overlaps an input or another output. polytwkb_read has two outputs, and polytwkb_round does not round in
- *   place.
+ * - No output overlaps an input or another output. polytwkb_read has three outputs and polytwkb_write two, and
+ *   polytwkb_round does not round in place.
  * - Rows, points, doubles and 64-bit integers are aligned to 8 bytes.
  * - While a call runs, no one else writes to its inputs, or reads or writes its outputs.
  * - A call has 256 KiB of stack left. It takes some 120 kB at most.
@@ -55,7 +59,7 @@ extern "C" {
  */
 #define POLYTWKB_DONE 0u      /* all was converted */
 #define POLYTWKB_REFUSED 1u   /* the input is refused: reason and place say why and where */
-#define POLYTWKB_ARGUMENTS 2u /* a limit, style, conversion or precision is out of range; nothing was done */
+#define POLYTWKB_ARGUMENTS 2u /* a limit, style, flag, conversion or precision is out of range; nothing was done */
 #define POLYTWKB_DEVICE 3u    /* the input could not be read; this has never been seen with a buffer */
 #define POLYTWKB_MEMORY 4u    /* memory was refused */
 #define POLYTWKB_TOO_SMALL 5u /* the output is too small: needed is the size needed; reason and place are 0 */
@@ -105,6 +109,16 @@ extern "C" {
 #define POLYTWKB_POINTS_MISSING 71u /* the row has more points than are left in the list */
 #define POLYTWKB_POINTS_LEFT 72u    /* points are left after the last row: place is the number of rows */
 
+/* Why a record of a CSV is refused: place is the record, counted from 1, which is the header. */
+#define POLYTWKB_NO_SUCH_COLUMN 81u
+#define POLYTWKB_COLUMN_TWICE 82u
+#define POLYTWKB_WRONG_FIELD_COUNT 83u
+#define POLYTWKB_MISSING_VALUE 84u
+
+/* Why a blob can be no field of a column: place is where it begins, in bytes from the start of the stream. */
+#define POLYTWKB_NO_LINESTRING 91u
+#define POLYTWKB_ANOTHER_PRECISION 92u
+
 /* Each text that polytwkb_reason_text or polytwkb_version writes fits this room, its NUL included. */
 #define POLYTWKB_TEXT_ROOM 32
 
@@ -112,10 +126,31 @@ extern "C" {
 #define POLYTWKB_FULL 0u  /* with sizes, and with boxes if allowed */
 #define POLYTWKB_PLAIN 1u /* without either */
 
-/* Conversions, for polytwkb_measure. */
+/* Flags of polytwkb_read and polytwkb_write: 0, or this one. */
+#define POLYTWKB_STOP_IF_FULL 1u /* end the call after the first geometry without room, and count no further */
+
+/* Conversions, for polytwkb_convert and polytwkb_measure. */
 #define POLYTWKB_PACK 0u
 #define POLYTWKB_UNPACK 1u
 #define POLYTWKB_SHOW 2u
+#define POLYTWKB_GEOJSON 3u
+#define POLYTWKB_HEADERS 4u
+
+/*
+ * POLYTWKB_GEOJSON writes a line of GeoJSON for each blob. POLYTWKB_HEADERS writes one of these for each line of
+ * polytwkb_show, in the same order, the lowest byte of each number first: where C has that order too, an output that is
+ * aligned to 8 bytes is an array of them.
+ */
+typedef struct polytwkb_header {
+    uint64_t offset;  /* of its type byte, in bytes from the start of the stream */
+    uint64_t length;  /* bytes, from its type byte to the end of its geometry */
+    uint64_t points;  /* points of its geometry, with those of its members */
+    uint32_t level;   /* collections that it is in: 0 for a blob */
+    uint8_t kind;     /* POLYTWKB_KIND_POINT to POLYTWKB_KIND_COLLECTION */
+    int8_t precision; /* decimals of its coordinates, -8 to 7 */
+    uint8_t metadata; /* its metadata byte */
+    uint8_t reserved; /* 0 */
+} polytwkb_header;
 
 /* The most that one geometry may have, its members included. */
 typedef struct polytwkb_limits {
@@ -126,24 +161,77 @@ typedef struct polytwkb_limits {
 
 /* What a call did. */
 typedef struct polytwkb_report {
-    uint32_t status;      /* POLYTWKB_DONE to POLYTWKB_TOO_SMALL */
-    uint32_t reason;      /* why the input is refused, 1 to 72; 0 with any other status */
-    uint64_t place;       /* what is refused: the record of a table, from 1; the offset of an item of a stream; the
-                             point of polytwkb_encode, the number of polytwkb_round or the row of polytwkb_write,
-                             from 0. With any other status 0 */
-    uint64_t text_offset; /* of a refused polyline, in a table or alone, the refused byte; of polytwkb_write, with
+    uint32_t status;       /* POLYTWKB_DONE to POLYTWKB_TOO_SMALL */
+    uint32_t reason;       /* why the input is refused, 1 to 92; 0 with any other status */
+    uint64_t place;        /* what is refused: the record of a table or of a CSV, from 1; the offset of an item of a
+                             stream; the point of polytwkb_encode, the number of polytwkb_round or the row of
+                             polytwkb_write, from 0. With any other status 0 */
+    uint64_t text_offset;  /* of a refused polyline, in a table or alone, the refused byte; of polytwkb_write, with
                              POLYTWKB_POLYLINE_RANGE, the row's first point out of range, from 0; else 0 */
-    uint64_t done;        /* geometries whose whole output is in the buffer; 1 if polytwkb_encode, polytwkb_decode or
+    uint64_t done;         /* geometries whose whole output is in the buffer; 1 if polytwkb_encode, polytwkb_decode or
                              polytwkb_round did all, else 0 */
-    uint64_t sent;        /* items at the start of the buffer that were written: bytes, of polytwkb_decode points, of
+    uint64_t sent;         /* items at the start of the buffer that were written: bytes, of polytwkb_decode points, of
                              polytwkb_round numbers. They are a prefix of the right output */
-    uint64_t needed;      /* POLYTWKB_TOO_SMALL: items of the whole output, more than the buffer has; 0 if they are not
+    uint64_t needed;       /* POLYTWKB_TOO_SMALL: items of the whole output, more than the buffer has; 0 if they are not
                              known, since memory was refused. With any other status as many as sent. The comments of
                              polytwkb_measure and polytwkb_write say what theirs is */
+    uint64_t taken;        /* how much of the input the geometries in done are: bytes of a stream, records of a table
+                              or of a CSV with its header, rows of polytwkb_write; 0 if done is 0, and of
+                              polytwkb_encode, _decode and _round. What comes after gives the rest of the output: of a
+                              table, below its header */
+    uint64_t taken_points; /* points of the rows that polytwkb_write took; of the other calls 0 */
+    uint64_t reserved[2];  /* 0; a later version may report more */
 } polytwkb_report;
 
 /* Sixteen collections, 2^20 rows and 2^24 points. */
 polytwkb_limits polytwkb_standard_limits(void);
+
+/*
+ * The options of polytwkb_convert and polytwkb_convert_column. A field that is left out is 0, so
+ * {sizeof(polytwkb_options)} has no option. precision and delimiter are 0 for polytwkb_convert.
+ */
+typedef struct polytwkb_options {
+    uint32_t size;          /* sizeof(polytwkb_options): a later version may have more fields */
+    uint32_t style;         /* POLYTWKB_FULL or POLYTWKB_PLAIN; only packing uses it, but it must be in range */
+    polytwkb_limits limits; /* {0, 0, 0}: the standard ones */
+    uint32_t precision;     /* of a column, which packing needs: POLYTWKB_DECIMALS(-8) to POLYTWKB_DECIMALS(7) */
+    uint32_t delimiter;     /* between two fields of a CSV: any of ASCII but '"', CR and LF; 0 is a comma */
+    uint32_t reserved[1];   /* 0 */
+} polytwkb_options;
+
+/* A precision in the options. It is more than 0, which is none given: 0 decimals have to be asked for. */
+#define POLYTWKB_DECIMALS(precision) ((uint32_t)(9 + (precision)))
+
+/*
+ * Converts a buffer by a conversion, which is POLYTWKB_PACK or another number there. options may be NULL. A shorter
+ * struct than this one has zeros for the rest. If a field that this call does not know is not 0, or size is 0 or
+ * no multiple of 4, the status is 2. polytwkb_pack, _unpack and _show are this call with limits and a style, but take
+ * three zeros as limits out of range. The symbol has no struct: it takes the fields as numbers of 32 bits, in their
+ * order, and how many there are.
+ */
+polytwkb_report polytwkb_convert(uint32_t conversion, const uint8_t *input, size_t input_length, uint8_t *output,
+                                 size_t output_length, const uint32_t *options, size_t option_count);
+
+/*
+ * Packs a column of a CSV (POLYTWKB_PACK), whose fields are polylines: each record after the header is a linestring,
+ * an empty field an empty one. Or unpacks a stream of linestrings of one precision (POLYTWKB_UNPACK) to a CSV of one
+ * column. words are the column's name, the name of a column of ids, and words for a missing value, each with a zero
+ * byte after it, so none can have one in it. Those after the name may be left out, and an empty name of ids is none.
+ * With ids all records are the lines of one multilinestring. Unpacking uses the name alone.
+ *
+ *   polytwkb_options options = {sizeof options, POLYTWKB_FULL, {0, 0, 0}, POLYTWKB_DECIMALS(5), ';', {0}};
+ *   polytwkb_convert_column(POLYTWKB_PACK, csv, length, blobs, room, "geom", sizeof "geom", &options);
+ *   polytwkb_convert_column(POLYTWKB_PACK, csv, length, blobs, room, "geom\0key", sizeof "geom\0key", &options);
+ *   polytwkb_convert_column(POLYTWKB_PACK, csv, length, blobs, room, "geom\0\0NA", sizeof "geom\0\0NA", &options);
+ *
+ * The report is that of polytwkb_convert. If conversion is another one, words do not end with a zero byte, packing has
+ * no precision, or an option is out of range, the status is 2. To measure, give a room of 0: with
+ * POLYTWKB_TOO_SMALL, needed is the length. Takes memory for a list of the words, too. The symbol has no struct, as that
+ * of polytwkb_convert.
+ */
+polytwkb_report polytwkb_convert_column(uint32_t conversion, const uint8_t *input, size_t input_length, uint8_t *output,
+                                        size_t output_length, const uint8_t *words, size_t words_length,
+                                        const uint32_t *options, size_t option_count);
 
 /* Packs a table (CSV with the columns depth, kind, id, precision and polyline) to a stream of blobs. */
 polytwkb_report polytwkb_pack(const uint8_t *input, size_t input_length, uint8_t *output, size_t output_length,
@@ -162,8 +250,8 @@ polytwkb_report polytwkb_show(const uint8_t *input, size_t input_length, uint8_t
  * is refused; it is 0 if that is not known, as with POLYTWKB_MEMORY. The rest of the report is that of the conversion
  * into enough room. Only packing uses style, but it must be in range.
  */
-polytwkb_report polytwkb_measure(uint32_t conversion, const uint8_t *input, size_t input_length,
-                                 polytwkb_limits limits, uint32_t style);
+polytwkb_report polytwkb_measure(uint32_t conversion, const uint8_t *input, size_t input_length, polytwkb_limits limits,
+                                 uint32_t style);
 
 /* A point, in units of 10^-precision: x is the longitude and y the latitude, if the units are of degrees. */
 typedef struct polytwkb_point {
@@ -264,6 +352,8 @@ typedef struct polytwkb_counts {
     uint64_t points;        /* points at the start of their array */
     uint64_t needed_rows;   /* rows of all geometries that were read, whether there was room for them or not */
     uint64_t needed_points; /* points of all these geometries */
+    uint64_t taken;         /* bytes of the geometries in the arrays: the other geometries begin there */
+    uint64_t reserved[2];   /* 0; a later version may report more */
 } polytwkb_counts;
 
 /*
@@ -279,9 +369,33 @@ typedef struct polytwkb_counts {
  *
  * A stream has at most as many rows as bytes, and at most half as many points as bytes. To count first, give rooms of
  * 0. Takes memory for one geometry.
+ *
+ * ends gets, for each geometry in the arrays, the offset in blobs at which it ends. With an end_room of 0 no ends are
+ * written and none are needed; else an end_room below the number of geometries is an array that is too small. As many
+ * ends as rows always suffice.
+ *
+ * taken is the last of these offsets, with any status but 2: the geometries that are not in the arrays are those of the
+ * bytes from there on. With POLYTWKB_STOP_IF_FULL the call ends after the first geometry that lacks room, with status 5
+ * and needed counts that include this geometry and none after it; without the flag it reads on to count all of them.
+ * So a stream is read by windows of its bytes, in the memory of a window and of its largest geometry. With the reason
+ * POLYTWKB_BLOB_TRUNCATED the window lacks the end of a blob; with status 5 and taken 0 an array is too small for the
+ * first geometry:
+ *
+ *   for (;;) {
+ *       size_t got = fread(window + held, 1, room - held, stdin);
+ *       polytwkb_counts counts = polytwkb_read(window, held += got, rows, row_room, points, point_room, NULL, 0,
+ *                                              polytwkb_standard_limits(), POLYTWKB_STOP_IF_FULL);
+ *       use(rows, counts.rows, points, counts.points);
+ *       memmove(window, window + counts.taken, held -= counts.taken);
+ *       if (counts.status == POLYTWKB_TOO_SMALL && counts.taken == 0)
+ *           grow_arrays(counts.needed_rows, counts.needed_points);
+ *       else if (counts.reason == POLYTWKB_BLOB_TRUNCATED && got != 0) { if (held == room) grow_window(2 * room); }
+ *       else if (counts.status == POLYTWKB_DONE ? got == 0 : counts.status != POLYTWKB_TOO_SMALL) return counts;
+ *   }
  */
 polytwkb_counts polytwkb_read(const uint8_t *blobs, size_t length, polytwkb_row *rows, size_t row_room,
-                              polytwkb_point *points, size_t point_room, polytwkb_limits limits);
+                              polytwkb_point *points, size_t point_room, uint64_t *ends, size_t end_room,
+                              polytwkb_limits limits, uint32_t flags);
 
 /*
  * Writes an array of rows and one of points as a stream of canonical blobs. The output gets whole blobs only, and bytes
@@ -297,6 +411,13 @@ polytwkb_counts polytwkb_read(const uint8_t *blobs, size_t length, polytwkb_row 
  *    answers 1.
  * done is the number of blobs in the output, sent that of their bytes, and needed, with any status but 2, the number
  * of bytes of the blobs of all complete geometries. To count first, give a room of 0.
+ *
+ * ends gets, for each blob in the output, the byte of the output at which it ends. With an end_room of 0 no ends are
+ * written and none are needed; else an end_room below the number of blobs is an output that is too small.
+ *
+ * taken and taken_points are the rows and points of these blobs, with any status but 2: those from there on give the
+ * rest of the stream. With POLYTWKB_STOP_IF_FULL the call ends after the first blob that lacks room, with status 5 and
+ * a needed that includes this blob and none after it; without the flag it reads on to count all of them.
  *
  * place is the first refused row, from 0, and reason the first of these that holds of it:
  *   BAD_KIND             kind is no number from 1 to 8
@@ -323,8 +444,8 @@ polytwkb_counts polytwkb_read(const uint8_t *blobs, size_t length, polytwkb_row 
  * Takes memory for one geometry and its blob.
  */
 polytwkb_report polytwkb_write(const polytwkb_row *rows, size_t row_count, const polytwkb_point *points,
-                               size_t point_count, uint8_t *output, size_t output_length, polytwkb_limits limits,
-                               uint32_t style);
+                               size_t point_count, uint8_t *output, size_t output_length, uint64_t *ends,
+                               size_t end_room, polytwkb_limits limits, uint32_t style, uint32_t flags);
 
 /*
  * Writes what a reason means in English, as the command says it on standard error: "bad header" for
@@ -349,6 +470,35 @@ static inline const uint8_t *polytwkb_input(const uint8_t *input, size_t length)
 static inline uint8_t *polytwkb_output(uint8_t *output, size_t length) {
     static uint8_t none = 0;
     return length == 0 ? &none : output;
+}
+
+/* The options as numbers, and how many there are: a size that is too small for itself is passed, and refused. */
+static inline const uint32_t *polytwkb_numbers(const polytwkb_options *options) {
+    static const uint32_t none = 0;
+    return options == NULL ? &none : (const uint32_t *)options;
+}
+
+static inline size_t polytwkb_number_count(const polytwkb_options *options) {
+    size_t count = *polytwkb_numbers(options) / sizeof(uint32_t);
+    return options != NULL && count == 0 ? 1 : count;
+}
+
+static inline polytwkb_report polytwkb_convert_any(uint32_t conversion, const uint8_t *input, size_t input_length,
+                                                   uint8_t *output, size_t output_length,
+                                                   const polytwkb_options *options) {
+    return polytwkb_convert(conversion, polytwkb_input(input, input_length), input_length,
+                            polytwkb_output(output, output_length), output_length, polytwkb_numbers(options),
+                            polytwkb_number_count(options));
+}
+
+static inline polytwkb_report polytwkb_convert_column_any(uint32_t conversion, const uint8_t *input,
+                                                          size_t input_length, uint8_t *output, size_t output_length,
+                                                          const char *words, size_t words_length,
+                                                          const polytwkb_options *options) {
+    return polytwkb_convert_column(conversion, polytwkb_input(input, input_length), input_length,
+                                   polytwkb_output(output, output_length), output_length,
+                                   polytwkb_input((const uint8_t *)words, words_length), words_length,
+                                   polytwkb_numbers(options), polytwkb_number_count(options));
 }
 
 static inline polytwkb_report polytwkb_pack_any(const uint8_t *input, size_t input_length, uint8_t *output,
@@ -386,8 +536,8 @@ static inline polytwkb_report polytwkb_decode_any(const uint8_t *text, size_t le
     return polytwkb_decode(polytwkb_input(text, length), length, room == 0 ? &none : points, room);
 }
 
-static inline polytwkb_report polytwkb_round_any(const double *numbers, size_t count, int32_t precision,
-                                                 int64_t *units, size_t room) {
+static inline polytwkb_report polytwkb_round_any(const double *numbers, size_t count, int32_t precision, int64_t *units,
+                                                 size_t room) {
     static const double none = 0;
     static int64_t no_unit;
     return polytwkb_round(count == 0 ? &none : numbers, count, precision, room == 0 ? &no_unit : units, room);
@@ -395,20 +545,26 @@ static inline polytwkb_report polytwkb_round_any(const double *numbers, size_t c
 
 static inline polytwkb_counts polytwkb_read_any(const uint8_t *blobs, size_t length, polytwkb_row *rows,
                                                 size_t row_room, polytwkb_point *points, size_t point_room,
-                                                polytwkb_limits limits) {
+                                                uint64_t *ends, size_t end_room, polytwkb_limits limits,
+                                                uint32_t flags) {
     static polytwkb_row no_row;
     static polytwkb_point no_point;
+    static uint64_t no_end;
     return polytwkb_read(polytwkb_input(blobs, length), length, row_room == 0 ? &no_row : rows, row_room,
-                         point_room == 0 ? &no_point : points, point_room, limits);
+                         point_room == 0 ? &no_point : points, point_room, end_room == 0 ? &no_end : ends, end_room,
+                         limits, flags);
 }
 
 static inline polytwkb_report polytwkb_write_any(const polytwkb_row *rows, size_t row_count,
                                                  const polytwkb_point *points, size_t point_count, uint8_t *output,
-                                                 size_t output_length, polytwkb_limits limits, uint32_t style) {
+                                                 size_t output_length, uint64_t *ends, size_t end_room,
+                                                 polytwkb_limits limits, uint32_t style, uint32_t flags) {
     static const polytwkb_row no_row = {0, 0, 0, 0, 0, 0};
     static const polytwkb_point no_point = {0, 0};
+    static uint64_t no_end;
     return polytwkb_write(row_count == 0 ? &no_row : rows, row_count, point_count == 0 ? &no_point : points,
-                          point_count, polytwkb_output(output, output_length), output_length, limits, style);
+                          point_count, polytwkb_output(output, output_length), output_length,
+                          end_room == 0 ? &no_end : ends, end_room, limits, style, flags);
 }
 
 static inline size_t polytwkb_reason_text_any(uint32_t reason, char *text, size_t room) {
@@ -419,6 +575,8 @@ static inline size_t polytwkb_version_any(char *text, size_t room) {
     return polytwkb_version((char *)polytwkb_output((uint8_t *)text, room), room);
 }
 
+#define polytwkb_convert polytwkb_convert_any
+#define polytwkb_convert_column polytwkb_convert_column_any
 #define polytwkb_pack polytwkb_pack_any
 #define polytwkb_unpack polytwkb_unpack_any
 #define polytwkb_show polytwkb_show_any

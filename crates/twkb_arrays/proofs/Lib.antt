@@ -1,5 +1,13 @@
 pub mod ArrayLemmas
+pub mod EndLemmas
 pub mod TakingLemmas
+pub mod ReadingLemmas
 pub mod ReadingLaws
 pub mod WritingLemmas
+pub mod WrittenLemmas
 pub mod WritingLaws
+pub mod FaultLemmas
+pub mod PieceLemmas
+pub mod PieceLaws
+pub mod PieceSampleLemmas
+pub mod RestLaws

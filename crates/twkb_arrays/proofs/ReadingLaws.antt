@@ -19,9 +19,10 @@ use Rattle.twkb_blob.specs.declared.fault.BlobFault.TheVariants as fault
 use Rattle.twkb_convert.specs.Outputs.{table_text}
 use Rattle.twkb_convert.specs.declared.report.Cause.{Cause}
 use Rattle.twkb_convert.specs.declared.report.Cause.TheVariants as cause
-use Rattle.twkb_buffer.specs.Calls.{IsRefusal, Tells}
+use Rattle.twkb_conversions.specs.Conversions.{IsRefusal, outputs_of}
+use Rattle.twkb_conversions.specs.declared.conversion.Conversion.TheVariants.{Unpack}
+use Rattle.twkb_buffer.specs.Calls.{Tells}
 use Rattle.twkb_buffer.specs.Numbers.{blob_number_of}
-use Rattle.twkb_buffer.specs.Slices.{UnpackedFront, UnpackedSlice}
 use Rattle.twkb_buffer.specs.declared.report.BufferReport.{BufferReport}
 use Rattle.twkb_buffer.specs.declared.point.BufferPoint.{BufferPoint}
 use Rattle.twkb_arrays.specs.FilledArrays.{EndsReading, ReadsArrays, outcome_of}
@@ -49,11 +50,11 @@ by_answer l bytes hs gs full (Err (fault.At offset reason)) status is ends s few
 by_answer l bytes hs gs full (Err _) status is ends s few = inl is
 
 pub all_read : (l : Allowance) (bytes : List ℕ) (old_rows new_rows : List BufferRow)
-    (old_points new_points : List BufferPoint) (counts : BufferCounts) (gs : List Tree)
-    (read : ReadsArrays l bytes old_rows old_points new_rows new_points counts)
+    (old_points new_points : List BufferPoint) (old_ends new_ends : List ℕ) (counts : BufferCounts) (gs : List Tree)
+    (read : ReadsArrays l bytes old_rows old_points old_ends new_rows new_points new_ends counts)
     → Stream l bytes gs → length bytes ≤ MAX_BYTES
     → (counts.status ≡ 4) ⊎ ((read.given ++ read.later ≡ gs) × (counts.status ≢ 1))
-all_read l bytes old_rows new_rows old_points new_points counts gs read s few =
+all_read l bytes old_rows new_rows old_points new_points old_ends new_ends counts gs read s few =
     by_answer l bytes (read.given ++ read.later) gs (are_more read.later) read.answer counts.status
     read.counted.status_is read.ended s few
 
@@ -69,8 +70,8 @@ status_zero l bytes gs full (Err _) e ends = absurd (omega (arith, e))
 
 -- a reading with status 0 took the geometries of the stream
 pub all_given : {l : Allowance} {bytes : List ℕ} {old_rows new_rows : List BufferRow}
-    {old_points new_points : List BufferPoint} {counts : BufferCounts} (gs : List Tree)
-    (read : ReadsArrays l bytes old_rows old_points new_rows new_points counts) → counts.status ≡ 0
+    {old_points new_points : List BufferPoint} {old_ends new_ends : List ℕ} {counts : BufferCounts} (gs : List Tree)
+    (read : ReadsArrays l bytes old_rows old_points old_ends new_rows new_points new_ends counts) → counts.status ≡ 0
     → Stream l bytes gs → read.given ≡ gs
 all_given {l = l} {bytes = bytes} gs read zero stream =
     let end = status_zero l bytes (read.given ++ read.later) (are_more read.later) read.answer
@@ -80,10 +81,11 @@ all_given {l = l} {bytes = bytes} gs read zero stream =
     stream)
 
 pub rows_of_text : (l : Allowance) (bytes : List ℕ) (old_rows new_rows : List BufferRow)
-    (old_points new_points : List BufferPoint) (counts : BufferCounts) (text : List ℕ) (done : ℕ)
-    → ReadsArrays l bytes old_rows old_points new_rows new_points counts → counts.status ≡ 0
-    → UnpackedSlice l bytes text done → AreSameRows text old_rows old_points new_rows new_points
-rows_of_text l bytes old_rows new_rows old_points new_points counts text done read zero
+    (old_points new_points : List BufferPoint) (old_ends new_ends : List ℕ) (counts : BufferCounts)
+    (text : List ℕ) (done taken : ℕ)
+    → ReadsArrays l bytes old_rows old_points old_ends new_rows new_points new_ends counts → counts.status ≡ 0
+    → (outputs_of Unpack l bytes).IsWhole text done taken → AreSameRows text old_rows old_points new_rows new_points
+rows_of_text l bytes old_rows new_rows old_points new_points old_ends new_ends counts text done taken read zero
     unpacked = record {
       rs = rows_of read.given;
       text_is = unpacked.written_is
@@ -93,7 +95,7 @@ rows_of_text l bytes old_rows new_rows old_points new_points counts text done re
     }
 
 -- the number of a reason of the grammar
-fault_number : grammar.Reason → ℕ
+pub fault_number : grammar.Reason → ℕ
 fault_number grammar.Truncated = 41
 fault_number grammar.BadType = 42
 fault_number grammar.ExtraDimensions = 43
@@ -105,7 +107,7 @@ fault_number grammar.CoordinateRange = 48
 fault_number grammar.SizeMismatch = 49
 
 -- a reason has the number of the grammar's
-number_is : (r : BlobReason) → blob_number_of r ≡ fault_number (reason_of r)
+pub number_is : (r : BlobReason) → blob_number_of r ≡ fault_number (reason_of r)
 unfolding fault_number
 number_is blob.Truncated = refl
 number_is blob.BadType = refl
@@ -134,19 +136,23 @@ by_fault l bytes gs hs false (Err (fault.At place q)) offset r e ends few f =
 by_fault l bytes gs hs full (Err _) offset r e ends few f = absurd (omega (arith, e))
 
 pub refused_alike : (l : Allowance) (bytes : List ℕ) (old_rows new_rows : List BufferRow)
-    (old_points new_points : List BufferPoint) (counts : BufferCounts) (text : List ℕ) (done : ℕ) (why : Cause)
-    (report : BufferReport) → ReadsArrays l bytes old_rows old_points new_rows new_points counts
-    → counts.status ≡ 1 → length bytes ≤ MAX_BYTES → UnpackedFront l bytes text done why → IsRefusal why
-    → Tells report why → (counts.reason ≡ report.reason) × (counts.place ≡ report.place)
-refused_alike l bytes old_rows new_rows old_points new_points counts text done (cause.Blob offset r) report read one
+    (old_points new_points : List BufferPoint) (old_ends new_ends : List ℕ) (counts : BufferCounts)
+    (text : List ℕ) (done taken : ℕ) (why : Cause)
+    (report : BufferReport) → ReadsArrays l bytes old_rows old_points old_ends new_rows new_points new_ends counts
+    → counts.status ≡ 1 → length bytes ≤ MAX_BYTES → (outputs_of Unpack l bytes).IsFront text done taken why
+    → IsRefusal why → Tells report why → (counts.reason ≡ report.reason) × (counts.place ≡ report.place)
+refused_alike l bytes old_rows new_rows old_points new_points old_ends new_ends counts text done taken
+    (cause.Blob offset r) report read one
     few front refused tells =
     let same = by_fault l bytes (read.given ++ read.later) front.part.whole (are_more read.later) read.answer offset r
     (sym read.counted.status_is ∙ one) read.ended few front.explains.2 in (
       read.counted.reason_is ∙ same.0 ∙ sym tells.reason,
       read.counted.place_is ∙ same.1 ∙ sym tells.place,
     )
-refused_alike l bytes old_rows new_rows old_points new_points counts text done (cause.Row number r) report read one
+refused_alike l bytes old_rows new_rows old_points new_points old_ends new_ends counts text done taken
+    (cause.Row number r) report read one
     few front refused tells = absurd front.explains
-refused_alike l bytes old_rows new_rows old_points new_points counts text done _ report read one few
+refused_alike l bytes old_rows new_rows old_points new_points old_ends new_ends counts text done taken _ report
+    read one few
     front refused tells =
     absurd refused

@@ -1,5 +1,5 @@
 -- Geometries that are taken from arrays: their rows are those of one list of geometries, or of none.
-use Rattle.std.proofs.Common.{◌≡◌, ℕ, ◌+◌, ◌-◌, ◌<◌, ◌≤◌, ◌⊎◌, inl, inr, List, [], ◌∷◌, ◌++◌, length, take, drop}
+use Rattle.std.proofs.Common.{◌≡◌, ℕ, ◌+◌, ◌<◌, ◌≤◌, ◌⊎◌, inl, inr, List, [], ◌∷◌, ◌++◌, length, take, drop}
 use Rattle.std.proofs.Common.{Bool, true, false, sym, ap, ◌∙◌, arith, length-append, append_assoc, refl, subst, zero}
 use Rattle.std.proofs.Common.{suc, get_or, Option, SFits, to_z, of_z, w8}
 use Rattle.std.proofs.lemmas.List.{length-map, map-append, append-nil, length-reverse, length-take-le}
@@ -21,8 +21,7 @@ use Rattle.twkb_table.proofs.Verdicts.{plain_rows, geometries}
 use Rattle.twkb_buffer.specs.Polylines.{coordinates_of, coordinates_at}
 use Rattle.twkb_buffer.specs.declared.point.BufferPoint.{BufferPoint}
 use Rattle.twkb_buffer.proofs.RunLemmas.{coordinates_of-append}
-use Rattle.twkb_arrays.specs.SentBlobs.{Fit}
-use Rattle.twkb_arrays.specs.Rows.{LacksRoom, array_points, array_rows, row_in_c, rows_in_c, kind_number, point_of}
+use Rattle.twkb_arrays.specs.Rows.{LacksPlaces, array_points, array_rows, row_in_c, rows_in_c, kind_number, point_of}
 use Rattle.twkb_arrays.specs.Rows.{points_of}
 use Rattle.twkb_arrays.specs.FilledArrays.{HasTaken, IsFilled, IsWithin, TakesOne}
 use Rattle.twkb_arrays.specs.declared.row.BufferRow.{BufferRow}
@@ -32,8 +31,8 @@ use Rattle.twkb_arrays.specs.JudgedRow.{checks_there, range_refusal, BeginsAlone
 use Rattle.twkb_arrays.specs.JudgedRow.{IsMadeAlone}
 use Rattle.twkb_arrays.specs.WrittenArrays.{AreArrays, AreRead, ArePointsLeft, IsRefusedRow}
 use Rattle.twkb_arrays.proofs.ArrayLemmas.{laid_length, laid_next, length-coordinates_of, BeginsWith, begins_with}
-use Rattle.twkb_arrays.proofs.ArrayLemmas.{refused_row, row_points-append, same_row, comes_after, has_none, has_room}
-use Rattle.twkb_arrays.proofs.ArrayLemmas.{no_more, one_after}
+use Rattle.twkb_arrays.proofs.ArrayLemmas.{refused_row, row_points-append, same_row, one_after}
+use Rattle.twkb_arrays.proofs.EndLemmas.{all_given, ends_next, has_room, lacks_end, none_later, passes}
 use Rattle.std.proofs.lemmas.Bool.Decides.{nat_tests}
 use Rattle.std.proofs.lemmas.Int.{ints, to_z-of_z}
 use Rattle.twkb_tree.specs.declared.kind.Kind.{Kind}
@@ -52,8 +51,6 @@ use Rattle.twkb_flat.specs.declared.stop.Stop.TheVariants as stop
 use Rattle.twkb_grammar.specs.Written.{canonical_blob}
 use Rattle.twkb_grammar.specs.declared.style.Style.{Style}
 use Rattle.twkb_writer.specs.Bytes.{one_line, one_point}
-
--- ==== Geometries that are taken into arrays, which are those of one list of geometries, or of none.
 
 -- ==== Geometries that are taken into arrays.
 
@@ -86,7 +83,7 @@ some_rows (simple p s) = omega arith
 some_rows (collection p ids gs) = omega arith
 
 -- there are no more geometries than rows
-few_geometries : (gs : List Tree) → length gs ≤ length (rows_of gs)
+pub few_geometries : (gs : List Tree) → length gs ≤ length (rows_of gs)
 few_geometries [] = omega arith
 few_geometries (g ∷ gs) = omega (arith, length-append (rows 0 g) (rows_of gs), some_rows g, few_geometries gs)
 
@@ -103,9 +100,9 @@ filled_lengths {start_rows = start_rows} {start_points = start_points} {gs = gs}
       f.points_are f.room.1,
 )
 
-pub within : {start_rows in_rows : List BufferRow} {start_points in_points : List BufferPoint}
-    {given later : List Tree} {taken : Taken}
-    → HasTaken start_rows start_points given later in_rows in_points taken
+pub within : {ends_at : List Tree → ℕ → Type 0} {start_rows in_rows : List BufferRow}
+    {start_points in_points : List BufferPoint} {start_ends in_ends : List ℕ} {given later : List Tree}
+    {taken : Taken} → HasTaken ends_at start_rows start_points start_ends given later in_rows in_points in_ends taken
     → IsWithin in_rows in_points taken
 within {given = given} h =
     let lengths = filled_lengths h.filled in
@@ -115,97 +112,101 @@ within {given = given} h =
       few = omega (arith, h.fit.done_is, h.rows_is, few_geometries given);
     }
 
+-- the numbers of rows and points of all geometries that were read
+pub needed : {ends_at : List Tree → ℕ → Type 0} {start_rows in_rows : List BufferRow}
+    {start_points in_points : List BufferPoint} {start_ends in_ends : List ℕ} {given later : List Tree}
+    {taken : Taken} → HasTaken ends_at start_rows start_points start_ends given later in_rows in_points in_ends taken
+    → (saturated (taken.rows + taken.passed_rows) ≡ saturated (length (rows_of (given ++ later))))
+    × (saturated (taken.points + taken.passed_points) ≡ saturated (length (row_points (rows_of (given ++ later)))))
+needed {given = given} {later = later} h =
+    let all : rows_of (given ++ later) ≡ rows_of given ++ rows_of later = flat_map-append (rows 0) given later in (
+      omega (
+        arith,
+        h.rows_is,
+        h.passed_rows_is,
+        ap (λ (xs : List Row). length xs) all,
+        length-append (rows_of given) (rows_of later),
+      ),
+      omega (
+        arith,
+        h.points_is,
+        h.passed_points_is,
+        ap (λ (xs : List Row). length (row_points xs)) all,
+        ap (λ (xs : List Point). length xs) (row_points-append (rows_of given) (rows_of later)),
+        length-append (row_points (rows_of given)) (row_points (rows_of later)),
+      ),
+    )
+
 -- ---- what was taken
 
--- a geometry was read that has this many rows and points
-abbrev pub counted_with : Taken → ℕ → ℕ → Taken
-counted_with t n m =
+-- a geometry was passed that has this many rows and points
+abbrev pub passed_with : Taken → ℕ → ℕ → Taken
+passed_with t n m =
     record t {
-      needed_rows = saturated (t.needed_rows + n);
-      needed_points = saturated
-          (t.needed_points + m);
+      passed = saturated (t.passed + 1);
+      passed_rows = saturated (t.passed_rows + n);
+      passed_points = saturated (t.passed_points + m);
     }
 
 -- one more geometry was read
-module _ {start_rows in_rows : List BufferRow} {start_points in_points : List BufferPoint}
-    {given later : List Tree}
-    {old : Taken} (h : HasTaken start_rows start_points given later in_rows in_points old)
+module _ {ends_at : List Tree → ℕ → Type 0} {start_rows in_rows : List BufferRow}
+    {start_points in_points : List BufferPoint} {start_ends in_ends : List ℕ} {given later : List Tree}
+    {old : Taken}
+    (h : HasTaken ends_at start_rows start_points start_ends given later in_rows in_points in_ends old)
     (g : Tree)
     {form : List Row} (same : rows 0 g ≡ form) where
-  -- the rows and points that are needed
-  needed : (hs : List Tree) → hs ≡ (given ++ later) ++ g ∷ []
-      → (saturated (old.needed_rows + length form) ≡ saturated (length (rows_of hs)))
-      × (saturated (old.needed_points + length (row_points form)) ≡ saturated
-      (length (row_points (rows_of hs))))
-  needed hs is =
-      let rows_are = count_more (given ++ later) g form same in
-      let points_are = point_count_more (given ++ later) g form same in
-      rw is (
-        omega (arith, rows_are, h.needed_rows_is),
-        omega
-            (arith, points_are, h.needed_points_is),
-      )
-
   -- it was counted, and not taken
-  not_taken : (full : Bool)
-      → Fit (LacksRoom start_rows start_points) given (later ++ g ∷ []) full old.done
-      → TakesOne start_rows start_points (given ++ later) g in_rows in_points
-      (record (counted_with old (length form) (length (row_points form))) { full = full })
-  not_taken full fit =
-      let all : given ++ (later ++ g ∷ []) ≡ (given ++ later) ++ g ∷ [] = sym
-      (append_assoc given later (g ∷ [])) in
-      let counts = needed (given ++ (later ++ g ∷ [])) all in (
-        given,
-        later ++ g ∷ [],
-        all,
-        record {
-          filled = h.filled;
-          fit = fit;
-          rows_is = h.rows_is;
-          points_is = h.points_is;
-          needed_rows_is = counts.0;
-          needed_points_is = counts.1;
-        },
-      )
-
-  -- others were not taken before
-  pub passed : old.full ≡ true
-      → TakesOne start_rows start_points (given ++ later) g in_rows in_points
-      (counted_with old (length form) (length (row_points form)))
-  passed full = not_taken old.full (comes_after g h.fit full)
-
-  -- there is no room for it
-  pub lacking : old.full ≡ false
-      → (length in_rows - old.rows < length form) ⊎ (length in_points - old.points < length
-      (row_points form))
-      → TakesOne start_rows start_points (given ++ later) g in_rows in_points
-      (record (counted_with old (length form) (length (row_points form))) { full = true })
-  lacking empty lacks =
+  pub not_taken : (0 < old.passed) ⊎ ((length in_rows < old.rows + length form)
+      ⊎ ((length in_points < old.points + length (row_points form))
+      ⊎ ((0 < length in_ends) × (length in_ends ≤ old.done))))
+      → TakesOne ends_at start_rows start_points start_ends (given ++ later) g in_rows in_points in_ends
+      (passed_with old (length form) (length (row_points form)))
+  not_taken why =
       let lengths = filled_lengths h.filled in
       let rows_are = count_more given g form same in
       let points_are = point_count_more given g form same in
-      let lack : LacksRoom start_rows start_points (given ++ g ∷ []) = elim lacks [
-        | inl few ↦ inl (omega (arith, few, rows_are, lengths, h.rows_is, h.filled.room))
-        | inr few ↦ inr (omega (arith, few, points_are, lengths, h.points_is, h.filled.room))
-      ] in
-      not_taken true (has_none g h.fit empty lack)
+      let lack : (0 < old.passed) ⊎ LacksPlaces start_rows start_points start_ends (given ++ g ∷ []) = elim why [
+        | inl some ↦ inl some
+        | inr (inl few) ↦ inr (inl (inl (omega (arith, few, rows_are, lengths, h.rows_is))))
+        | inr (inr (inl few)) ↦ inr (inl (inr (omega (arith, few, points_are, lengths, h.points_is))))
+        | inr (inr (inr few)) ↦ inr (inr (lacks_end g old.done h.ends h.fit.done_is few))
+      ] in (
+        given,
+        later ++ g ∷ [],
+        sym (append_assoc given later (g ∷ [])),
+        record {
+          filled = h.filled;
+          ends = h.ends;
+          fit = passes g h.fit lack;
+          rows_is = h.rows_is;
+          points_is = h.points_is;
+          bytes_is = h.bytes_is;
+          passed_rows_is = omega (arith, h.passed_rows_is, count_more later g form same);
+          passed_points_is = omega (arith, h.passed_points_is, point_count_more later g form same);
+        },
+      )
 
   -- it was taken
-  pub taken_one : {new_rows : List BufferRow} {new_points : List BufferPoint} → old.full ≡ false
-      → old.rows + length form ≤ length in_rows → old.points + length (row_points form) ≤ length
-      in_points
+  pub taken_one : {new_rows : List BufferRow} {new_points : List BufferPoint} {new_ends : List ℕ} (end : ℕ)
+      → old.passed ≡ 0 → old.rows + length form ≤ length in_rows
+      → old.points + length (row_points form) ≤ length in_points → ends_at ((given ++ later) ++ g ∷ []) end
+      → (length in_ends ≡ 0) ⊎ (old.done < length in_ends) → (length in_ends ≡ 0 → new_ends ≡ in_ends)
+      → (old.done < length in_ends
+      → new_ends ≡ take old.done in_ends ++ ((end ∷ []) ++ drop (old.done + 1) in_ends))
       → new_rows ≡ take old.rows in_rows ++ (rows_in_c form ++ drop (old.rows + length form)
       in_rows) → new_points ≡ take old.points in_points
       ++ (coordinates_of (row_points form) ++ drop (old.points + length (row_points form))
-      in_points) → TakesOne start_rows start_points (given ++ later) g new_rows new_points
-      (record (counted_with old (length form) (length (row_points form))) {
+      in_points)
+      → TakesOne ends_at start_rows start_points start_ends (given ++ later) g new_rows new_points new_ends
+      (record old {
         done = old.done + 1;
         rows = old.rows + length form;
         points = old.points + length (row_points form);
+        bytes = end;
       })
-  taken_one empty rows_fit points_fit rows_new points_new =
-      let all = one_after given later g (no_more later (sym h.fit.full_is ∙ empty)) in
-      let counts = needed ((given ++ g ∷ []) ++ []) all in
+  taken_one end none rows_fit points_fit last end_room kept put rows_new points_new =
+      let empty = none_later h.fit none in
+      let at_end = subst (λ (gs : List Tree). ends_at gs end) (all_given given later g empty) last in
       let lengths = filled_lengths h.filled in
       let rows_are = count_more given g form same in
       let points_are = point_count_more given g form same in
@@ -215,7 +216,7 @@ module _ {start_rows in_rows : List BufferRow} {start_points in_points : List Bu
       rw h.points_is h.filled.points_are in (
         given ++ g ∷ [],
         [],
-        all,
+        one_after given later g empty,
         record {
           filled = record {
             rows_are = laid_next start_rows (array_rows given) (rows_in_c form) (length form)
@@ -234,11 +235,17 @@ module _ {start_rows in_rows : List BufferRow} {start_points in_points : List Bu
               omega (arith, points_fit, points_are, h.points_is, lengths),
             );
           };
-          fit = has_room g h.fit empty;
+          ends = ends_next g old.done end h.ends at_end h.fit.done_is end_room kept put;
+          fit = has_room g h.fit none;
           rows_is = omega (arith, rows_are, h.rows_is);
           points_is = omega (arith, points_are, h.points_is);
-          needed_rows_is = counts.0;
-          needed_points_is = counts.1;
+          bytes_is = at_end;
+          passed_rows_is = omega (arith, h.passed_rows_is, ap (λ (l : List Tree). length (rows_of l)) empty);
+          passed_points_is = omega (
+            arith,
+            h.passed_points_is,
+            ap (λ (l : List Tree). length (row_points (rows_of l))) empty,
+          );
         },
       )
 
@@ -357,9 +364,6 @@ none_refused {l = l} {gs = gs} {hs = hs} {number = number} cap a b =
     ] in
     no_refusal l gs before rest r why.0 a.valid whole
     (refused_after_all l hs b.begun r why.0 b.read.begun_valid at_front why.1)
-
--- ==== The tests of a row at its place are those of a table's row, and a lone row is a whole
--- geometry.
 
 -- ==== The tests of a row at its place after the rows of a form are those of a table's row.
 

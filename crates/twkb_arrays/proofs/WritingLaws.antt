@@ -47,7 +47,7 @@ use Rattle.twkb_buffer.specs.declared.report.BufferReport.{BufferReport}
 use Rattle.twkb_arrays.specs.ReadBack.{Arrays, BeginAs, IsRoundTrip}
 use Rattle.twkb_arrays.specs.FilledArrays.{EndsReading, ReadsArrays, outcome_of}
 use Rattle.twkb_arrays.specs.SentBlobs.{StopsBefore, are_more}
-use Rattle.twkb_arrays.specs.Rows.{HasRoom, LacksRoom, array_points, array_rows, row_in_c}
+use Rattle.twkb_arrays.specs.Rows.{HasRoom, LacksPlaces, array_points, array_rows, row_in_c}
 use Rattle.twkb_arrays.specs.WrittenArrays.{AreArrays, EndsWriting, WritesArrays, write_outcome_of}
 use Rattle.twkb_arrays.specs.declared.filled_arrays.BufferCounts.{BufferCounts}
 use Rattle.twkb_arrays.specs.declared.row.BufferRow.{BufferRow}
@@ -55,7 +55,7 @@ use Rattle.twkb_arrays.specs.declared.written_arrays.RefusedAt.{RefusedAt}
 use Rattle.twkb_arrays.specs.Samples.{each_kind, each_kind_points, each_kind_rows, each_kind_stream, one_point_blob}
 use Rattle.twkb_arrays.specs.Samples.{two_rings_blob, named_points_blob, two_lines_blob, named_areas_blob}
 use Rattle.twkb_arrays.proofs.ArrayLemmas.{length-coordinates_of, row_points-append, no_more}
-use Rattle.twkb_arrays.proofs.TakingLemmas.{none_left, none_refused, one_arrays}
+use Rattle.twkb_arrays.proofs.TakingLemmas.{few_geometries, none_left, none_refused, one_arrays}
 use Rattle.twkb_arrays.proofs.ReadingLaws.{all_given, all_read}
 
 -- ==== A row that is refused in arrays is refused for the same reason as the row of a table.
@@ -298,8 +298,6 @@ one_reason l rs r why v shallow id precise not_range not_many e j =
     less : (m n : ℕ) → nat_lt m n ≡ true → n ≤ m → ⊥
     less m n e over = grind (arith, nat_tests)
 
--- ==== Arrays are written in one way and read back as they are, samples of each kind too.
-
 -- ==== Arrays are written in one way, and read back as they are.
 
 -- how the writing of the arrays of geometries may end
@@ -318,11 +316,11 @@ by_answer l gs hs in_rows in_points full (Err (stop.Refused at)) status is (inr 
     absurd (none_left cap a left)
 
 pub all_written_as : (l : Allowance) (style : Style) (in_rows : List BufferRow) (in_points : List BufferPoint)
-    (old new : List ℕ) (report : BufferReport) (gs : List Tree)
-    (wrote : WritesArrays l style in_rows in_points old new report) → IsAllowance l
+    (old old_ends new new_ends : List ℕ) (report : BufferReport) (gs : List Tree)
+    (wrote : WritesArrays l style in_rows in_points old old_ends new new_ends report) → IsAllowance l
     → AreArrays l gs in_rows in_points
     → (report.status ≡ 4) ⊎ ((wrote.given ++ wrote.later ≡ gs) × (report.status ≢ 1))
-all_written_as l style in_rows in_points old new report gs wrote cap a =
+all_written_as l style in_rows in_points old old_ends new new_ends report gs wrote cap a =
     by_answer l gs (wrote.given ++ wrote.later) in_rows in_points (are_more wrote.later) wrote.answer report.status
     wrote.reported.status_is wrote.ended cap a
 
@@ -345,9 +343,9 @@ not_two true (Err (stop.Refused at)) e = omega (arith, e)
 not_two false (Err (stop.Refused at)) e = omega (arith, e)
 
 pub never_arguments : (l : Allowance) (style : Style) (in_rows : List BufferRow) (in_points : List BufferPoint)
-    (old new : List ℕ) (report : BufferReport) → WritesArrays l style in_rows in_points old new report
-    → report.status ≡ 2 → ⊥
-never_arguments l style in_rows in_points old new report wrote two =
+    (old old_ends new new_ends : List ℕ) (report : BufferReport)
+    → WritesArrays l style in_rows in_points old old_ends new new_ends report → report.status ≡ 2 → ⊥
+never_arguments l style in_rows in_points old old_ends new new_ends report wrote two =
     not_two (are_more wrote.later) wrote.answer (sym wrote.reported.status_is ∙ two)
 
 -- what a call that succeeded wrote
@@ -358,9 +356,10 @@ pub record Wrote (l : Allowance) (style : Style) (in_rows : List BufferRow) (in_
   pub bytes_are : bytes ≡ canonical_stream style gs
 
 pub all_wrote : (l : Allowance) (style : Style) (in_rows : List BufferRow) (in_points : List BufferPoint)
-    (old new : List ℕ) (report : BufferReport) → WritesArrays l style in_rows in_points old new report
+    (old old_ends new new_ends : List ℕ) (report : BufferReport)
+    → WritesArrays l style in_rows in_points old old_ends new new_ends report
     → report.status ≡ 0 → Wrote l style in_rows in_points (take report.sent new)
-all_wrote l style in_rows in_points old new report w zero =
+all_wrote l style in_rows in_points old old_ends new new_ends report w zero =
     let end = written_zero l (w.given ++ w.later) in_rows in_points (are_more w.later) w.answer
     (sym w.reported.status_is ∙ zero) w.ended in
     let stream = canonical_stream style w.given in
@@ -402,14 +401,30 @@ room_for_first in_rows in_points gs hs room =
     )
 
 -- with room for all, all is taken
-all_taken : (in_rows : List BufferRow) (in_points : List BufferPoint) (given later : List Tree)
-    → HasRoom in_rows in_points (given ++ later) → StopsBefore (LacksRoom in_rows in_points) given later → later ≡ []
-all_taken in_rows in_points given [] room stops = refl
-all_taken in_rows in_points given (g ∷ later) room stops =
+all_taken : (in_rows : List BufferRow) (in_points : List BufferPoint) (in_ends : List ℕ) (given later : List Tree)
+    → HasRoom in_rows in_points (given ++ later)
+    → (in_ends ≡ []) ⊎ (length (rows_of (given ++ later)) ≤ length in_ends)
+    → StopsBefore (LacksPlaces in_rows in_points in_ends) given later → later ≡ []
+all_taken in_rows in_points in_ends given [] room end_room stops = refl
+all_taken in_rows in_points in_ends given (g ∷ later) room end_room stops =
     let first = room_for_first in_rows in_points (given ++ g ∷ []) later (rw append_assoc room) in
     absurd (elim stops [
-      | inl few ↦ omega (arith, few, first)
-      | inr few ↦ omega (arith, few, first)
+      | inl (inl few) ↦ omega (arith, few, first)
+      | inl (inr few) ↦ omega (arith, few, first)
+      | inr few ↦
+          let some = few.0 in
+          let lacks = few.1 in
+          elim end_room [
+            | inl none ↦ omega (arith, some, ap (λ (l : List ℕ). length l) none)
+            | inr many ↦ omega (
+              arith,
+              lacks,
+              many,
+              few_geometries (given ++ g ∷ later),
+              length-append given (g ∷ later),
+              length-append given (g ∷ []),
+            )
+          ]
     ])
 
 -- what is written at the start of a list, by its own length
@@ -421,7 +436,8 @@ pub read_back : (l : Allowance) (given old new : Arrays) (counts : BufferCounts)
     → IsRoundTrip l given old new counts → (counts.status ≡ 4) ⊎ ((counts.status ≡ 0) × BeginAs given old new)
 read_back l given old new counts cap trip =
     let bytes = take trip.report.sent trip.after in
-    let w = all_wrote l trip.style given.rows given.points trip.before trip.after trip.report trip.wrote trip.done in
+    let w = all_wrote l trip.style given.rows given.points trip.before trip.before_ends trip.after trip.after_ends
+    trip.report trip.wrote trip.done in
     let gs = w.gs in
     let stream : Stream l bytes gs = rw w.bytes_are
     (written_stream l trip.style gs cap w.are.valid) in
@@ -431,11 +447,16 @@ read_back l given old new counts cap trip =
     ∙ length-coordinates_of (row_points (rows_of gs)) in
     let room : HasRoom old.rows old.points gs =
     (omega (arith, row_count, trip.room_for_rows), omega (arith, point_count, trip.room_for_points)) in
-    elim (all_read l bytes old.rows new.rows old.points new.points counts gs trip.read stream trip.few) [
+    let end_room : (trip.old_ends ≡ []) ⊎ (length (rows_of gs) ≤ length trip.old_ends) = elim trip.room_for_ends [
+      | inl none ↦ inl none
+      | inr many ↦ inr (omega (arith, row_count, many))
+    ] in
+    elim (all_read l bytes old.rows new.rows old.points new.points trip.old_ends trip.new_ends counts gs trip.read
+    stream trip.few) [
       | inl memory ↦ inl memory
       | inr all ↦
-          let none : trip.read.later ≡ [] = all_taken old.rows old.points trip.read.given trip.read.later
-          (rw all.0 room) trip.read.stops in
+          let none : trip.read.later ≡ [] = all_taken old.rows old.points trip.old_ends trip.read.given
+          trip.read.later (rw all.0 room) (rw all.0 end_room) trip.read.stops in
           let same : trip.read.given ≡ gs = sym (append-nil trip.read.given) ∙ rw none at all.0 in
           let status = rw none at trip.read.counted.status_is in
           let rows_are : new.rows ≡ array_rows gs ++ drop (length (rows_of gs)) old.rows =
@@ -462,15 +483,18 @@ stream_valid l bytes [] s = tt
 stream_valid l bytes (g ∷ gs) s = (s.3.valid, stream_valid l s.1 gs s.4)
 
 pub written_canonical : (l : Allowance) (style : Style) (bytes : List ℕ) (old_rows new_rows : List BufferRow)
-    (old_points new_points : List BufferPoint) (counts : BufferCounts) (gs : List Tree) (old new : List ℕ)
-    (report : BufferReport) → IsAllowance l
-    → ReadsArrays l bytes old_rows old_points new_rows new_points counts → counts.status ≡ 0 → Stream l bytes gs
-    → (wrote : WritesArrays l style (take counts.rows new_rows) (take counts.points new_points) old new report)
+    (old_points new_points : List BufferPoint) (old_ends new_ends : List ℕ) (counts : BufferCounts)
+    (gs : List Tree) (old before_ends new after_ends : List ℕ) (report : BufferReport) → IsAllowance l
+    → ReadsArrays l bytes old_rows old_points old_ends new_rows new_points new_ends counts → counts.status ≡ 0
+    → Stream l bytes gs
+    → (wrote : WritesArrays l style (take counts.rows new_rows) (take counts.points new_points) old before_ends new
+    after_ends report)
     → (report.status ≡ 4) ⊎ ((wrote.given ++ wrote.later ≡ gs) × (report.status ≢ 1))
-written_canonical l style bytes old_rows new_rows old_points new_points counts gs old new report cap read zero stream
-    wrote =
+written_canonical l style bytes old_rows new_rows old_points new_points old_ends new_ends counts gs old before_ends new
+    after_ends report cap read zero stream wrote =
     let same = all_given gs read zero stream in
-    all_written_as l style (take counts.rows new_rows) (take counts.points new_points) old new report gs wrote cap
+    all_written_as l style (take counts.rows new_rows) (take counts.points new_points) old before_ends new after_ends
+    report gs wrote cap
     (record {
       valid = stream_valid l bytes gs stream;
       rows_are = ap (λ (xs : List BufferRow). take counts.rows xs) read.filled.rows_are
@@ -523,17 +547,18 @@ are_arrays = record {
 }
 
 pub sample_read : (old_rows new_rows : List BufferRow) (old_points new_points : List BufferPoint)
-    (counts : BufferCounts)
-    → ReadsArrays standard each_kind_stream old_rows old_points new_rows new_points counts → counts.status ≡ 0
+    (old_ends new_ends : List ℕ) (counts : BufferCounts)
+    → ReadsArrays standard each_kind_stream old_rows old_points old_ends new_rows new_points new_ends counts
+    → counts.status ≡ 0
     → (new_rows ≡ each_kind_rows ++ drop 19 old_rows) × (new_points ≡ each_kind_points ++ drop 16 old_points)
-sample_read old_rows new_rows old_points new_points counts read zero =
+sample_read old_rows new_rows old_points new_points old_ends new_ends counts read zero =
     let same = all_given each_kind read zero is_stream in
     (rw same at read.filled.rows_are, rw same at read.filled.points_are)
 
-pub sample_written : (old new : List ℕ) (report : BufferReport)
-    → WritesArrays standard Full each_kind_rows each_kind_points old new report
+pub sample_written : (old old_ends new new_ends : List ℕ) (report : BufferReport)
+    → WritesArrays standard Full each_kind_rows each_kind_points old old_ends new new_ends report
     → report.status ≡ 0 → take report.sent new ≡ each_kind_stream
-sample_written old new report wrote zero =
-    let all = all_wrote standard Full each_kind_rows each_kind_points old new report wrote zero in
+sample_written old old_ends new new_ends report wrote zero =
+    let all = all_wrote standard Full each_kind_rows each_kind_points old old_ends new new_ends report wrote zero in
     all.bytes_are ∙ ap (canonical_stream Full) (one_arrays standard_allowed are_arrays all.are)
     ∙ is_written

@@ -1,6 +1,9 @@
+pub mod Ends
 pub mod SentBlobs
 pub mod FilledArrays
 pub mod JudgedRow
+pub mod Pieces
+pub mod PieceSamples
 pub mod ReadBack
 pub mod Rows
 pub mod Samples

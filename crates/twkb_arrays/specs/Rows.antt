@@ -8,6 +8,7 @@ use Rattle.twkb_tree.specs.Tree.{Tree}
 use Rattle.twkb_tree.specs.Rows.{Row, rows_of, row_points}
 use Rattle.twkb_buffer.specs.Polylines.{coordinates_of}
 use Rattle.twkb_buffer.specs.declared.point.BufferPoint.{BufferPoint}
+use Rattle.twkb_arrays.specs.Ends.{LacksEndRoom}
 use Rattle.twkb_arrays.specs.declared.row.BufferRow.{BufferRow}
 use Rattle.twkb_table.specs.Record.{header, record_of}
 use Rattle.twkb_table.specs.Text.{csvtext}
@@ -72,6 +73,10 @@ HasRoom in_rows in_points gs = (length (rows_of gs) ≤ length in_rows)
 abbrev pub LacksRoom : List BufferRow → List BufferPoint → List Tree → Type 0
 LacksRoom in_rows in_points gs = (length in_rows < length (rows_of gs))
     ⊎ (length in_points < length (row_points (rows_of gs)))
+
+-- an array of rows, of points or of ends has too little room for these geometries
+abbrev pub LacksPlaces : List BufferRow → List BufferPoint → List ℕ → List Tree → Type 0
+LacksPlaces in_rows in_points in_ends gs = LacksRoom in_rows in_points gs ⊎ LacksEndRoom in_ends gs
 
 -- the point with these coordinates
 abbrev pub point_of : BufferPoint → Point

@@ -12,7 +12,7 @@ use Rattle.twkb_arrays.specs.declared.row.BufferRow.{BufferRow}
 abbrev pub each_kind : List Tree
 each_kind = one_point ∷ three_points ∷ two_rings ∷ named_points ∷ two_lines ∷ named_areas ∷ named_members ∷ []
 
--- The blobs of the point.
+-- The blob of the point.
 abbrev pub one_point_blob : List ℕ
 one_point_blob = 0x01 ∷ 0x02 ∷ 0x02 ∷ 0x04 ∷ 0x02 ∷ []
 
@@ -30,7 +30,7 @@ named_points_blob = 0x04 ∷ 0x07 ∷ 0x0B ∷ 0x00 ∷ 0x02 ∷ 0x00 ∷ 0x02 �
 abbrev pub two_lines_blob : List ℕ
 two_lines_blob = 0x05 ∷ 0x03 ∷ 0x0B ∷ 0x02 ∷ 0x02 ∷ 0x02 ∷ 0x02 ∷ 0x02 ∷ 0x01 ∷ 0x02 ∷ 0x02 ∷ 0x01 ∷ 0x02 ∷ 0x02 ∷ []
 
--- The blob of the multipolygon: its size, its box, two polygons, their ids, the rings of each.
+-- The blob of `named_areas`: its size, its box, two polygons, their ids, the rings of each.
 abbrev pub named_areas_blob : List ℕ
 named_areas_blob =
     0x06 ∷ 0x07 ∷ 0x0D ∷ 0x02 ∷ 0x00 ∷ 0x02 ∷ 0x00 ∷ 0x02 ∷ 0x06 ∷ 0x08 ∷ 0x02 ∷ 0x01 ∷ 0x02 ∷ 0x02 ∷ 0x00 ∷ 0x00 ∷ []

@@ -1,11 +1,14 @@
 //! Streams of blobs as rows and points in arrays.
-ghost use Rattle.std.specs.Prelude.{◌≡◌, ◌<◌, ◌≤◌, List, [], ◌++◌, length, take, IfOk, IfErr};
+ghost use Rattle.std.specs.Prelude.{◌≡◌, ◌≢◌, ◌<◌, ◌≤◌, ◌+◌, ℕ, List, [], length, take, IfOk, IfErr, true, false};
 ghost use Rattle.twkb_tree.specs.Tree.{Tree};
+ghost use Rattle.twkb_tree.specs.Limits.{Allowance};
+ghost use Rattle.twkb_grammar.specs.Items.{Stream};
 ghost use Rattle.twkb_buffer.specs.declared.point.BufferPoint.{BufferPoint as InPoint};
 ghost use Rattle.twkb_blob.specs.Sessions.{Stands, session_limits};
 ghost use Rattle.twkb_arrays.specs.declared.row.BufferRow.{BufferRow as InRow};
-ghost use Rattle.twkb_arrays.specs.FilledArrays.{HasTaken, IsWithin, CountsAs, EndsReading, IsReading, ReadsArrays};
-ghost use Rattle.twkb_arrays.specs.FilledArrays.{StopsReading, outcome_of};
+ghost use Rattle.twkb_arrays.specs.Ends.{EndAt};
+ghost use Rattle.twkb_arrays.specs.FilledArrays.{HasTaken, IsWithin, CountsAs, IsReading, ReadsArrays};
+ghost use Rattle.twkb_arrays.specs.FilledArrays.{ReadsTo, ReadsWithinRoom, StopsReading, outcome_of};
 
 use crate::row::BufferRow;
 use crate::status::unless_full;
@@ -36,6 +39,12 @@ pub struct BufferCounts {
     pub needed_rows: u64,
     /// The number of points of all geometries that were read.
     pub needed_points: u64,
+    /// The number of bytes of the stream that the geometries in the arrays took.
+    pub taken: u64,
+    /// 0: room for what later versions report.
+    pub reserved_1: u64,
+    /// 0: room for what later versions report.
+    pub reserved_2: u64,
 }
 
 // The status, the reason and the place to report for a reading with this result: status 4 if memory
@@ -57,20 +66,24 @@ fn outcome(full: bool, answer: Result<(), BlobFault>) -> (u32, u32, u64)
 
 // The counts to report for a reading with this result that took the geometries in `taken`.
 fn counted(taken: &Taken, answer: Result<(), BlobFault>) -> BufferCounts
-    ensures { (start_rows new_rows : List InRow) (start_points new_points : List InPoint)
-        (given later : List Tree) → HasTaken start_rows start_points given later new_rows new_points
-        taken.now → CountsAs given later answer result }
+    ensures { (l : Allowance) (bytes : List ℕ) (start_rows new_rows : List InRow)
+        (start_points new_points : List InPoint) (start_ends new_ends : List ℕ) (given later : List Tree)
+        → HasTaken (EndAt l bytes) start_rows start_points start_ends given later new_rows new_points
+        new_ends taken.now → CountsAs (EndAt l bytes) given later answer result }
 {
-    let (status, reason, place) = outcome(taken.full, answer);
+    let (status, reason, place) = outcome(taken.passed > 0, answer);
     BufferCounts {
         status,
         reason,
         place,
-        done: taken.done,
+        done: taken.done as u64,
         rows: taken.rows as u64,
         points: taken.points as u64,
-        needed_rows: taken.needed_rows,
-        needed_points: taken.needed_points,
+        needed_rows: (taken.rows as u64).saturating_add(taken.passed_rows),
+        needed_points: (taken.points as u64).saturating_add(taken.passed_points),
+        taken: taken.bytes as u64,
+        reserved_1: 0,
+        reserved_2: 0,
     }
 }
 
@@ -86,26 +99,34 @@ fn read_next(
     session: &mut Session,
     row_array: &mut [BufferRow],
     point_array: &mut [BufferPoint],
+    ends: &mut [u64],
     taken: &mut Taken,
 ) -> Result<usize, BlobFault>
     requires left { used < length blobs.now }
     requires within { IsWithin row_array.old point_array.old taken.old }
     requires stands { (gs : List Tree) × Stands (take used blobs.now) gs session.old }
     ensures more { IfOk result (λ next. (used < next) × (next ≤ length blobs.now)) }
+    ensures one { taken.new.passed ≤ taken.old.passed + 1 }
+    ensures passes { IfOk result (λ next. taken.new.passed ≢ taken.old.passed → (gs : List Tree)
+        × Stream (session_limits session.old) (take next blobs.now) gs) }
+    ensures kept { IfErr result (λ why. taken.new ≡ taken.old) }
     ensures reads { IfOk result (λ next. (start_rows : List InRow) (start_points : List InPoint)
-        → IsReading start_rows start_points (take used blobs.now) row_array.old point_array.old
-        session.old taken.old → IsReading start_rows start_points (take next blobs.now) row_array.new
-        point_array.new session.new taken.new) }
+        (start_ends : List ℕ) → IsReading (session_limits session.old) start_rows start_points start_ends
+        (take used blobs.now) row_array.old point_array.old ends.old session.old taken.old
+        → IsReading (session_limits session.old) start_rows start_points start_ends (take next blobs.now)
+        row_array.new point_array.new ends.new session.new taken.new) }
     ensures stops { IfErr result (λ why. (start_rows : List InRow) (start_points : List InPoint)
-        → IsReading start_rows start_points (take used blobs.now) row_array.old point_array.old
-        session.old taken.old → StopsReading (session_limits session.old) start_rows start_points
-        blobs.now row_array.new point_array.new taken.new why) }
+        (start_ends : List ℕ) → IsReading (session_limits session.old) start_rows start_points start_ends
+        (take used blobs.now) row_array.old point_array.old ends.old session.old taken.old
+        → StopsReading (session_limits session.old) start_rows start_points start_ends blobs.now
+        row_array.new point_array.new ends.new taken.new why) }
     ensures limits { session_limits session.new ≡ session_limits session.old }
 {
     match session.feed_flat(&blobs[used..]) {
         Ok((more, true)) => {
-            take_geometry(session.rows(), row_array, point_array, taken);
-            Ok(used + more)
+            let next = used + more;
+            take_geometry(session.rows(), next, row_array, point_array, ends, taken);
+            Ok(next)
         }
         Ok((more, false)) => Ok(used + more),
         Err(fault) => Err(fault),
@@ -113,25 +134,32 @@ fn read_next(
 }
 
 // Reads blobs through a session to their end, or to a fault or want of memory, which is the `Err`,
-// and takes or only counts each geometry before it, as `take_geometry` does. The session must be
-// new, and nothing may be taken before. Takes memory.
+// and takes or only counts each geometry before it, as `take_geometry` does; if `stops`, only to
+// the end of the first geometry that is counted. The session must be new, and nothing may be taken
+// before. Takes memory.
 fn read_all(
     blobs: &[u8],
+    stops: bool,
     session: &mut Session,
     row_array: &mut [BufferRow],
     point_array: &mut [BufferPoint],
+    ends: &mut [u64],
     taken: &mut Taken,
 ) -> Result<(), BlobFault>
-    requires { IsReading row_array.old point_array.old [] row_array.old point_array.old session.old taken.old }
-    ensures { (given later : List Tree) × HasTaken row_array.old point_array.old given later
-        row_array.new point_array.new taken.new
-        × EndsReading (session_limits session.old) blobs.now (given ++ later) result }
+    requires new { IsReading (session_limits session.old) row_array.old point_array.old ends.old []
+        row_array.old point_array.old ends.old session.old taken.old }
+    requires none { taken.old.passed ≡ 0 }
+    ensures { ReadsTo (session_limits session.old) stops blobs.now row_array.old point_array.old ends.old
+        row_array.new point_array.new ends.new taken.new result }
 {
     let mut used = 0;
     while used < blobs.len() {
-        match read_next(blobs, used, session, row_array, point_array, taken) {
+        match read_next(blobs, used, session, row_array, point_array, ends, taken) {
             Ok(next) => used = next,
             Err(fault) => return Err(fault),
+        }
+        if stops && taken.passed > 0 {
+            return session.finish();
         }
     }
     session.finish()
@@ -139,21 +167,27 @@ fn read_all(
 
 /// Reads a stream of blobs into arrays: the rows of its geometries as a table has them (blobs:
 /// TWKB; rows: profile), each with the number of its points, and the points of all rows in one
-/// list. A blob that is refused, as one past the limits is, stops it after the geometries before
-/// it. A geometry for which an array has too little room is not written, nor is any after it, but
-/// all are counted: status 5, even if a later blob is refused. Places of the arrays after what is
-/// written are unchanged. Takes memory for one geometry.
+/// list. If `ends` has places, it gets the offset after each geometry in the stream. A blob that is
+/// refused, as one past the limits is, stops it after the geometries before it. If an array lacks
+/// room for a geometry, it and later ones are only counted: status 5, even if a later blob is
+/// refused; if `stops`, the call ends after the first such geometry. Places after what is written
+/// are unchanged. Takes memory for one geometry.
 pub fn read_arrays(
     alloc: Global,
     blobs: &[u8],
     rows: &mut [BufferRow],
     points: &mut [BufferPoint],
+    ends: &mut [u64],
     limits: Limits,
+    stops: bool,
 ) -> BufferCounts
-    ensures { ReadsArrays limits blobs.now rows.old points.old rows.new points.new result }
+    ensures reads { stops ≡ false → ReadsArrays limits blobs.now rows.old points.old ends.old
+        rows.new points.new ends.new result }
+    ensures within_room { stops ≡ true → ReadsWithinRoom limits blobs.now rows.old points.old ends.old
+        rows.new points.new ends.new result }
 {
     let mut session = Session::new(alloc, limits);
     let mut taken = Taken::nothing();
-    let answer = read_all(blobs, &mut session, rows, points, &mut taken);
+    let answer = read_all(blobs, stops, &mut session, rows, points, ends, &mut taken);
     counted(&taken, answer)
 }

@@ -4,6 +4,7 @@
 mod appended_row;
 mod blob_room;
 mod copied_form;
+mod end_room;
 mod filled_arrays;
 mod judged_row;
 pub mod laws;
@@ -14,6 +15,7 @@ pub mod samples;
 mod sent_blobs;
 mod status;
 mod taken_geometries;
+mod writer;
 mod written_arrays;
 
 pub use filled_arrays::{BufferCounts, read_arrays};

@@ -16,13 +16,14 @@ use Rattle.std.proofs.lemmas.Bool.Decides.{nat_tests}
 use Rattle.std.proofs.lemmas.Int.{ints}
 use Rattle.std.proofs.lemmas.Nat.{field_of, mod_below, pow-add, pow_pos, mul-le}
 use Rattle.std.specs.Float.{Float, binary64, fin, inf, nan}
-use Rattle.std.specs.Prelude.{Option, None, Some, SomeIff, nat_le, nat_lt, ◌&&◌}
+use Rattle.std.specs.Prelude.{Option, None, Some, SomeIff, nat_le, nat_lt, ◌&&◌, ◌⊎◌}
 use Rattle.std.specs.List.{AllZip}
 use Rattle.std.proofs.lemmas.Option.{get_or_from_slice_get, slice_get_within}
 use Rattle.std.proofs.lemmas.List.{length-set, take_more, take_more_set, drop-drop, drop-set-lt}
 use Rattle.fast_float.specs.Rounding.{IsSignificand}
 use Rattle.twkb_points.specs.declared.point.TheConstants.{COORDINATE_BOUND}
 use Rattle.twkb_points.specs.Point.{IsCoordinate}
+use Rattle.twkb_tree.specs.Tree.{IsPrecision}
 use Rattle.twkb_buffer.specs.RoundedNumbers.{IsFinite, exponent, exponent_field, significand, with_sign, FindsNearest}
 use Rattle.twkb_buffer.specs.RoundedNumbers.{IsNearest, FindsSize, HasHalf, IsShort, IsSize, ReachesHalf, above}
 use Rattle.twkb_buffer.specs.RoundedNumbers.{above_halfway, below, below_halfway, FindsUnit, IsUnit, RoundsBefore}
@@ -34,8 +35,6 @@ use Rattle.twkb_buffer.proofs.FractionLemmas.{before_half, half_before, nearest_
 use Rattle.twkb_buffer.proofs.FractionLemmas.{same_value}
 use Rattle.twkb_grammar.proofs.Stepping.{both}
 use Rattle.twkb_buffer.specs.Samples.{AreRounded, large_doubles, other_doubles, written_halves}
-
--- ==== Doubles as coordinates: their values, and the halves that decide how they are rounded.
 
 -- ==== The value of a double by the parts of its bits.
 
@@ -463,7 +462,7 @@ ten_fits n most power few is =
     (omega (arith, least), omega (arith, top))
 
 -- a small size is in range with either sign
-signed_fits : (b : Bool) (size : ℕ) → size ≤ 10 ^ 14 → IsCoordinate (cond b (pos size) (neg_ℤ (pos size)))
+signed_fits : (b : Bool) (size : ℕ) → size < COORDINATE_BOUND → IsCoordinate (cond b (pos size) (neg_ℤ (pos size)))
 signed_fits true size few = (omega (arith, ints), omega (arith, ints))
 signed_fits false size few = (omega (arith, ints), omega (arith, ints))
 
@@ -493,8 +492,100 @@ IsUnit-few factor divisor number size coordinate scales finite few near is = rec
   size = size;
   size_is = found_size factor divisor number scales finite size few near;
   unit_is = is;
-  in_range = subst IsCoordinate (sym is) (signed_fits (ltb number (2 ^ 63)) size few);
+  in_range = subst IsCoordinate (sym is) (signed_fits (ltb number (2 ^ 63)) size (omega (arith, few)));
 }
+
+-- The size of a number, which is small or at most half a unit more than the exact one.
+record HasSize (factor divisor number : ℕ) : Type 0 where
+  size : ℕ
+  size_is : IsSize factor divisor number size
+  few : (size ≤ 10 ^ 14) ⊎ (2 * (size * below divisor number) ≤ 2 * above factor number + below divisor number)
+
+-- each finite number has one
+some_size : (factor divisor number : ℕ) → AreScales factor divisor → IsFinite number → HasSize factor divisor number
+some_size factor divisor number scales finite =
+    elim (cases_lt (10 * above factor number) (10 ^ 15 * below divisor number)) [
+      | inl short ↦
+          let some = mul-pos (pow_pos (1075 - (exponent number - 1))) scales.divisor_some in
+          let near = nearest_some (above_halfway factor number) (below_halfway divisor number) (significand number % 2)
+          some (omega arith) in
+          record {
+            size = _;
+            size_is = short_size factor divisor number scales finite _ short near;
+            few = inl (short_near factor divisor number scales finite _ short near);
+          }
+      | inr long ↦
+          let some = mul-pos (pow_pos (1075 - exponent number)) scales.divisor_some in
+          let near = nearest_some (above factor number) (below divisor number) 0 some (omega arith) in
+          record {
+            size = _;
+            size_is = long_size factor divisor number (λ short. omega (arith, short, long)) _ near;
+            few = inr (omega (arith, near.at_most_half_over));
+          }
+    ]
+
+-- the powers of ten at a precision are those of a scale
+AreScales-at : (precision : ℤ) → IsPrecision precision → AreScales (factor_at precision) (divisor_at precision)
+AreScales-at (pos n) is =
+    let power = ten_fits n 7 (10 ^ n) (omega (arith, ints, is.1)) refl in
+    record {
+      factor_some = power.0;
+      factor_fits = power.1;
+      divisor_some = omega arith;
+      divisor_fits = omega arith;
+    }
+AreScales-at (negsuc n) is =
+    let power = ten_fits (suc n) 8 (10 ^ suc n) (omega (arith, ints, is.0)) refl in
+    record {
+      factor_some = omega arith;
+      factor_fits = omega arith;
+      divisor_some = power.0;
+      divisor_fits = power.1;
+    }
+
+pub IsSize-some : (precision : ℤ) (number : ℕ) → IsPrecision precision → IsFinite number
+    → (size : ℕ) × IsSize (factor_at precision) (divisor_at precision) number size
+IsSize-some precision number is finite =
+    let has = some_size (factor_at precision) (divisor_at precision) number (AreScales-at precision is) finite in
+    (has.size, has.size_is)
+
+-- a size at most half a unit more than one below the bound
+rounded_fits : (size over under : ℕ) → 0 < under → over ≤ (COORDINATE_BOUND - 1) * under
+    → 2 * (size * under) ≤ 2 * over + under → size < COORDINATE_BOUND
+rounded_fits size over under some small near = elim (cases_lt size COORDINATE_BOUND) [
+  | inl less ↦ less
+  | inr far ↦
+      let most : COORDINATE_BOUND * under ≤ size * under = mul-le-mul_right under far in
+      absurd (omega (arith, most, near, small, some))
+]
+
+-- it is in range if the exact one is
+size_fits : (factor divisor number : ℕ) → 0 < below divisor number
+    → above factor number ≤ (COORDINATE_BOUND - 1) * below divisor number
+    → (has : HasSize factor divisor number) → has.size < COORDINATE_BOUND
+size_fits factor divisor number some small has = elim has.few [
+  | inl few ↦ omega (arith, few)
+  | inr near ↦ rounded_fits has.size (above factor number) (below divisor number) some small near
+]
+
+pub IsUnit-some : (precision : ℤ) (number : ℕ) → IsPrecision precision → IsFinite number
+    → above (factor_at precision) number ≤ (COORDINATE_BOUND - 1) * below (divisor_at precision) number
+    → (unit : ℤ) × IsUnit (factor_at precision) (divisor_at precision) number unit
+IsUnit-some precision number is finite small =
+    let factor = factor_at precision in
+    let divisor = divisor_at precision in
+    let scales = AreScales-at precision is in
+    let has = some_size factor divisor number scales finite in
+    let some = mul-pos (pow_pos (1075 - exponent number)) scales.divisor_some in (
+      with_sign number has.size,
+      record {
+        finite = finite;
+        size = has.size;
+        size_is = has.size_is;
+        unit_is = refl;
+        in_range = signed_fits (ltb number (2 ^ 63)) has.size (size_fits factor divisor number some small has);
+      },
+    )
 
 -- and so is its unit
 pub IsUnit-one : (factor divisor number : ℕ) (one other : ℤ) → IsUnit factor divisor number one

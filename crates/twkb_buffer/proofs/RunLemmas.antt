@@ -1,44 +1,28 @@
 -- What a run between two slices says about the bytes, the length and the words of its report.
 use Rattle.std.specs.Io.KnownBytes.{Appends}
 use Rattle.std.proofs.Common.{◌≡◌, ◌∙◌, ℕ, ◌≤◌, List, ◌∷◌, ◌++◌, length, take, Result, Ok, Err, ap, sym, subst}
-use Rattle.std.proofs.Common.{length-take-le, [], Some, inl, inr, Option, None, arith, refl, append_assoc, ◌+◌, ◌-◌}
+use Rattle.std.proofs.Common.{length-take-le, [], Some, Option, None, arith, refl, append_assoc, ◌+◌, ◌-◌}
 use Rattle.std.proofs.Common.{◌<◌, drop, set, min, eqb, if◌then◌else◌}
 use Rattle.twkb_convert.specs.declared.report.ConvertFault.{ConvertFault}
 use Rattle.twkb_convert.specs.declared.report.Report.{Report}
 use Rattle.twkb_table.proofs.FieldLemmas.{head_same, tail_same}
-use Rattle.twkb_buffer.specs.Calls.{Answers, Ends, Fills, Stops, IsRefusal, refused_length, whole_length_of}
-use Rattle.twkb_buffer.specs.Calls.{Counts, Measures, MeasuresBy, count_of, Finished, HasLength, Stopped}
-use Rattle.twkb_buffer.specs.Slices.{buffer_of, filled_of, held, ListedFront, ListedSlice, PackedFront, PackedSlice}
+use Rattle.twkb_conversions.specs.Conversions.{Answers, IsRefusal, Outputs, outputs_of}
+use Rattle.twkb_conversions.proofs.ConversionLemmas.{finished_length_is, refused_length_is}
+use Rattle.twkb_buffer.specs.Calls.{Fills, Measures, MeasuresBy, count_of, refused_length, whole_length_of}
+use Rattle.twkb_buffer.specs.Slices.{buffer_of, filled_of, held}
 use Rattle.twkb_buffer.specs.declared.filler.Filler.{Filler}
-use Rattle.std.proofs.lemmas.List.{append-nil, drop-set, drop_min, take_min}
-use Rattle.std.specs.Prelude.{◌≢◌, IfSome}
+use Rattle.std.proofs.lemmas.List.{drop-set, drop_min, take_min}
+use Rattle.std.specs.Prelude.{◌≢◌}
 use Rattle.twkb_tree.specs.Limits.{Allowance}
-use Rattle.twkb_grammar.specs.Written.{canonical_stream}
-use Rattle.twkb_engine.specs.Stops.{reason_of}
-use Rattle.twkb_table.specs.RowFault.{Named}
-use Rattle.twkb_convert.specs.Listings.{LocatedStream, lines_text}
-use Rattle.twkb_convert.specs.Outputs.{PackTo, table_text}
 use Rattle.twkb_convert.specs.declared.report.Cause.{Cause}
-use Rattle.twkb_convert.specs.declared.conversion.Conversion.{Conversion}
+use Rattle.twkb_conversions.specs.declared.conversion.Conversion.{Conversion}
 use Rattle.twkb_convert.specs.declared.report.Cause.TheVariants as cause
-use Rattle.twkb_convert.specs.declared.conversion.Conversion.TheVariants as conversion
-use Rattle.twkb_convert.proofs.RoundTrips.{refused_output, one_records}
 use Rattle.twkb_buffer.specs.Numbers.{status_of, blob_number_of, point_text_number_of, reason_number_of}
 use Rattle.twkb_buffer.specs.Numbers.{row_number_of}
 use Rattle.twkb_buffer.specs.declared.report.BufferReport.{BufferReport}
 use Rattle.twkb_points.specs.Point.{Point, AreInRange, IsInRange, point_at}
 use Rattle.twkb_buffer.specs.Polylines.{FirstOutside, coordinates_at, coordinates_of}
 use Rattle.twkb_buffer.specs.declared.point.BufferPoint.{BufferPoint}
-use Rattle.twkb_io.specs.Taps.{bytes_given, device_of}
-use Rattle.twkb_io.specs.Inputs.{BeginsWith}
-use Rattle.twkb_io.specs.declared.tap.Tap.{Tap}
-use Rattle.twkb_tree.specs.Tree.{Tree}
-use Rattle.twkb_grammar.specs.declared.style.Style.{Style}
-use Rattle.twkb_table.specs.CsvRecords.{AreRecordsOf}
-use Rattle.twkb_convert.specs.Listed.{ExplainsListingCause, Listed, StoppedListing}
-use Rattle.twkb_convert.specs.Packed.{ExplainsPackingCause, Packed, StoppedPacking}
-use Rattle.twkb_convert.specs.Parts.{MayBeWritten}
-use Rattle.twkb_convert.specs.Conversions.{Converts}
 use Rattle.std.proofs.Math.Nat.{min_comm, min-le_right}
 use Rattle.std.proofs.Math.Numerals.{add-one}
 use Rattle.twkb_polyline.specs.declared.fault.PolyReason.{PolyReason}
@@ -48,7 +32,7 @@ use Rattle.twkb_table.specs.declared.reason.RowReason.TheVariants as row
 use Rattle.twkb_engine.specs.declared.blob_reason.BlobReason.{BlobReason}
 use Rattle.twkb_engine.specs.declared.blob_reason.BlobReason.TheVariants as blob
 use Rattle.twkb_convert.specs.Causes.{cause_words}
-use Rattle.twkb_buffer.specs.Texts.{AreWordsOf, HasReason, NamesNoBlob, NamesNoPointText, NamesNoRow, array_words}
+use Rattle.twkb_buffer.specs.Texts.{AreWordsOf, HasReason, NamesNoBlob, NamesNoPointText, NamesNoRow, other_words}
 use Rattle.twkb_buffer.specs.Texts.{with_text}
 
 -- ==== The bytes that a writer into a slice leaves there.
@@ -90,7 +74,7 @@ moved_back borrowed started ended given bytes first last none appends =
     filled borrowed given bytes none (subst (λ (f : Filler). Appends (held borrowed) (held f) bytes) (sym last) added)
 
 -- a fact about the bytes written is one about the start of a slice
-at_start : (Fact : List ℕ → Type 0) (n : ℕ) (bytes slice : List ℕ) → n ≡ length bytes
+pub at_start : (Fact : List ℕ → Type 0) (n : ℕ) (bytes slice : List ℕ) → n ≡ length bytes
     → take (length bytes) slice ≡ bytes → Fact bytes
     → Fact (take n slice) × (n ≡ length (take n slice))
 at_start Fact n bytes slice count front fact =
@@ -98,30 +82,21 @@ at_start Fact n bytes slice count front fact =
     (subst Fact (sym same) fact, count ∙ ap length (sym same))
 
 -- the start of a slice is the bytes written
-pub fills : (Ended : Ends) (Halted : Stops) (answer : Result Report ConvertFault)
-    (bytes slice : List ℕ) → Answers Ended Halted bytes answer
-    → length bytes ≤ length slice → take (length bytes) slice ≡ bytes → Fills Ended Halted slice answer
-fills Ended Halted (Ok report) bytes slice agrees within front = record {
+pub fills : (outputs : Outputs) (answer : Result Report ConvertFault) (bytes slice : List ℕ)
+    → Answers outputs bytes answer → length bytes ≤ length slice → take (length bytes) slice ≡ bytes
+    → Fills outputs slice answer
+fills outputs (Ok report) bytes slice agrees within front = record {
   fits = rw agrees.1 within;
-  agrees = at_start (λ written. Ended written report.geometries) report.bytes bytes slice agrees.1
-      front agrees.0;
+  agrees = at_start (λ written. outputs.IsWhole written report.geometries report.taken) report.bytes bytes slice
+      agrees.1 front agrees.0;
 }
-fills Ended Halted (Err fault) bytes slice agrees within front = record {
+fills outputs (Err fault) bytes slice agrees within front = record {
   fits = rw agrees.1 within;
-  agrees = at_start (λ written. Halted written fault.done fault.cause) fault.sent bytes slice
+  agrees = at_start (λ written. outputs.IsFront written fault.done fault.taken fault.cause) fault.sent bytes slice
       agrees.1 front agrees.0;
 }
 
 -- ==== The length of the whole output, as an answer counts it.
-
--- no output is left, so all output of the complete geometries was written
-all_written : {A : Type 0} (text_of : List A → List ℕ) (whole later : List A)
-    (written left : List ℕ) → text_of (whole ++ later) ≡ written ++ left → later ≡ [] → left ≡ []
-    → written ≡ text_of whole
-all_written text_of whole later written left cut no_later none =
-    sym (append-nil written) ∙ (ap (λ (bytes : List ℕ). written ++ bytes) (sym none)
-    ∙ (sym cut ∙ (ap (λ more. text_of (whole ++ more)) no_later
-    ∙ ap text_of (append-nil whole))))
 
 -- if a length is reported, the input is refused
 is_refused : (why : Cause) (sent n : ℕ) → refused_length why sent ≡ Some n → IsRefusal why × (n ≡ sent)
@@ -129,70 +104,17 @@ is_refused (cause.Row number reason) sent n e = (tt, cc)
 is_refused (cause.Blob offset reason) sent n e = (tt, cc)
 is_refused _ sent n e = absurd cc
 
--- the length of the output of a refused input
-refused_length_is : (what : Conversion) (l : Allowance) (input written : List ℕ) (done n : ℕ)
-    (why : Cause) → Stopped what l input written done why → IsRefusal why → n ≡ length written
-    → HasLength what l input n
-refused_length_is (conversion.Pack style) l input written done n (cause.Row number reason) f refused
-    e =
-    λ records all.
-    let p = f.part in
-    let whole : written ≡ canonical_stream style p.whole = p.bytes
-    ∙ (ap (λ front. canonical_stream style p.whole ++ front) f.explains.1
-    ∙ append-nil (canonical_stream style p.whole)) in (
-      written,
-      subst (PackTo style l records) (sym whole)
-          (refused_output style l input records number reason p.whole (all, f.explains.2)),
-      e,
-    )
-refused_length_is conversion.Unpack l input written done n (cause.Blob offset reason) f refused e =
-    let p = f.part in
-    let text : written ≡ table_text p.whole = all_written table_text p.whole p.later written p.left
-    p.cut f.explains.0 f.explains.1 in
-    (written, inr (offset, reason_of reason, p.whole, f.explains.2, text), e)
-refused_length_is conversion.Show l input written done n (cause.Blob offset reason) f refused e =
-    let p = f.part in
-    let text : written ≡ lines_text p.whole = all_written lines_text p.whole p.later written p.left
-    p.cut f.explains.0 f.explains.1 in
-    let none : p.whole ++ p.later ≡ p.whole = ap (λ later. p.whole ++ later) f.explains.0 ∙ append-nil p.whole in
-    let begin : LocatedStream l 0 p.bytes p.whole = subst (λ blobs. LocatedStream l 0 p.bytes blobs) none p.blobs in
-    (written, inr (offset, reason_of reason, p.whole, f.explains.2, (p.bytes, p.begins.0, p.begins.1, begin), text), e)
-refused_length_is (conversion.Pack style) l input written done n (cause.Blob offset reason) f
-    refused e =
-    absurd f.explains
-refused_length_is what l input written done n (cause.Row number reason) f refused e = absurd
-    f.explains
-refused_length_is what l input written done n _ f refused e = absurd refused
-
--- the length of the whole output
-finished_length_is : (what : Conversion) (l : Allowance) (input written : List ℕ) (done n : ℕ)
-    → Finished what l input written done → n ≡ length written → HasLength what l input n
-finished_length_is (conversion.Pack style) l input written done n p e = λ records all. (
-  written,
-  inl (
-    p.whole.geometries,
-    subst (λ rs. Named l rs p.whole.geometries)
-        (one_records input p.whole.records records p.whole.all all) p.whole.named,
-    p.written_is,
-  ),
-  e,
-)
-finished_length_is conversion.Unpack l input written done n p
-    e = (written, inl (p.found, p.stream_is, p.written_is), e)
-finished_length_is conversion.Show l input written done n p
-    e = (written, inl (p.found, p.stream_is, p.written_is), e)
-
 -- the length that an answer counts as the whole output is that length
 pub whole_length : (what : Conversion) (l : Allowance) (input written : List ℕ)
-    (answer : Result Report ConvertFault) (n : ℕ)
-    → Answers (Finished what l input) (Stopped what l input) written answer
-    → whole_length_of answer ≡ Some n → HasLength what l input n
+    (answer : Result Report ConvertFault) (n : ℕ) → Answers (outputs_of what l input) written answer
+    → whole_length_of answer ≡ Some n → (outputs_of what l input).HasLength n
 whole_length what l input written (Ok report) n agrees told =
     let same : n ≡ report.bytes = cc in
-    finished_length_is what l input written report.geometries n agrees.0 (same ∙ agrees.1)
+    finished_length_is what l input written report.geometries report.taken n agrees.0 (same ∙ agrees.1)
 whole_length what l input written (Err fault) n agrees told =
     let refused = is_refused fault.cause fault.sent n told in
-    refused_length_is what l input written fault.done n fault.cause agrees.0 refused.0 (refused.1 ∙ agrees.1)
+    refused_length_is what l input written fault.done fault.taken n fault.cause
+    agrees.0 refused.0 (refused.1 ∙ agrees.1)
 
 -- ==== From the answer of a conversion to the report of a call that measures.
 
@@ -213,27 +135,34 @@ refused_count (cause.Blob offset reason) sent refused = refl
 refused_count _ sent refused = absurd refused
 
 -- the length that was counted is measured
-pub measured : (Ended : Ends) (Halted : Stops) (HasLength : ℕ → Type 0)
-    (answer : Result Report ConvertFault) (report : BufferReport) → Counts Ended Halted answer
-    → MeasuresBy answer report
-    → ((n : ℕ) → whole_length_of answer ≡ Some n → HasLength n) → Measures Ended Halted HasLength report
-measured Ended Halted HasLength (Ok answer) report counts by known = record {
+pub measured : (outputs : Outputs) (answer : Result Report ConvertFault) (report : BufferReport)
+    (counts : (written : List ℕ) × Answers outputs written answer) → MeasuresBy answer report
+    → ((n : ℕ) → whole_length_of answer ≡ Some n → outputs.HasLength n) → Measures outputs report
+measured outputs (Ok answer) report counts by known = record {
   none = by.0;
-  finished = λ zero. (counts.0, subst (λ n. Ended counts.0 n) (sym by.2) counts.1.0, by.3 ∙ counts.1.1);
+  finished = λ zero. (
+    counts.0,
+    subst (λ n. outputs.IsWhole counts.0 n report.taken) (sym by.2)
+        (subst (λ n. outputs.IsWhole counts.0 answer.geometries n) (sym by.4) counts.1.0),
+    by.3 ∙ counts.1.1,
+  );
   stopped = λ some. absurd (some by.1);
   needed = λ some. known report.needed (ap (λ n. Some n) (sym by.3));
+  no_more = by.5;
 }
-measured Ended Halted HasLength (Err fault) report counts by known = record {
+measured outputs (Err fault) report counts by known = record {
   none = by.0;
   finished = λ zero. absurd (never_done fault.cause (sym by.1.status ∙ zero));
   stopped = λ some. (
     fault.cause,
     counts.0,
     by.1,
-    subst (λ n. Halted counts.0 n fault.cause) (sym by.2) counts.1.0,
+    subst (λ n. outputs.IsFront counts.0 n report.taken fault.cause) (sym by.2)
+        (subst (λ n. outputs.IsFront counts.0 fault.done n fault.cause) (sym by.4) counts.1.0),
     λ refused. by.3 ∙ (refused_count fault.cause fault.sent refused ∙ counts.1.1),
   );
   needed = λ some. known report.needed (told_count (refused_length fault.cause fault.sent) report.needed by.3 some);
+  no_more = by.5;
 }
 
 -- ==== Points and their coordinates, one by one.
@@ -296,127 +225,6 @@ coordinates_put whole put after left rest p held next more =
     ∙ append_assoc put (coordinates_at p ∷ []) (coordinates_of rest)
     ∙ ap (λ (r : List Point). put ++ coordinates_of r) (sym next)
     ∙ held
-
--- ==== What a run between a reader and a writer says about the bytes read and written.
-
--- These bytes were written after those that the writer held, and agree with the answer.
-pub record Wrote {W : Type 0} (Ended : Ends) (Halted : Stops) (contents : W → Option (List ℕ))
-    (writer written : Tap W) (answer : Result Report ConvertFault) : Type 0 where
-  pub bytes : List ℕ
-  pub appends : Appends (contents (device_of writer)) (contents (device_of written)) bytes
-  pub agrees : Answers Ended Halted bytes answer
-
-module _ {R W : Type 0} (l : Allowance) (input : List ℕ) (remaining : R → Option (List ℕ))
-    (contents : W → Option (List ℕ))
-    (reader : Tap R) (writer : Tap W) (read : Tap R) (written : Tap W)
-    (told : remaining (device_of reader) ≡ Some input) where
-  packed : (style : Style) (report : Report) → Packed style l remaining contents reader writer report read written
-      → Wrote (PackedSlice style l input) (PackedFront style l input) contents writer written (Ok report)
-  packed style report p = record {
-    bytes = canonical_stream style p.table.geometries;
-    appends = p.appends;
-    agrees = (
-      record {
-        whole = record {
-          records = p.table.records;
-          geometries = p.table.geometries;
-          all = subst (λ (o : Option (List ℕ)). IfSome o (λ text. AreRecordsOf text p.table.records)) told p.table.all;
-          few = p.table.few;
-          named = p.table.named;
-        };
-        written_is = refl;
-        done_is = p.count;
-      },
-      p.bytes,
-    );
-  }
-
-  packed_front : (style : Style) (fault : ConvertFault)
-      → StoppedPacking style l remaining contents reader writer fault read written
-      → Wrote (PackedSlice style l input) (PackedFront style l input) contents writer written (Err fault)
-  packed_front style fault p = record {
-    bytes = p.bytes;
-    appends = p.appends;
-    agrees = (
-      record {
-        part = record {
-          whole = p.part.whole;
-          later = p.part.later;
-          front = p.part.front;
-          rest = p.part.rest;
-          ready = subst (λ (o : Option (List ℕ)). MayBeWritten l o (p.part.whole ++ p.part.later)) told p.part.ready;
-          cut = p.part.cut;
-          bytes = p.part.bytes;
-        };
-        one = p.one;
-        done_is = p.done;
-        given = bytes_given read;
-        explains = subst (λ (o : Option (List ℕ)). ExplainsPackingCause style l o (bytes_given read)
-            fault.cause p.part.whole p.part.later p.part.front) told p.explains;
-      },
-      p.sent,
-    );
-  }
-
-  listed : {A : Type 0} (AreBlobs : List ℕ → List A → Type 0) (trees_of : List A → List Tree)
-      (text_of : List A → List ℕ) (report : Report)
-      → Listed AreBlobs text_of remaining contents reader writer report read written
-      → Wrote (ListedSlice AreBlobs text_of input) (ListedFront AreBlobs trees_of text_of l input)
-      contents writer written (Ok report)
-  listed AreBlobs trees_of text_of report p = record {
-    bytes = text_of p.found;
-    appends = p.appends;
-    agrees = (
-      record {
-        found = p.found;
-        stream_is = subst (λ (o : Option (List ℕ)). IfSome o (λ bytes. AreBlobs bytes p.found)) told p.stream;
-        written_is = refl;
-        done_is = p.geometries;
-      },
-      p.bytes,
-    );
-  }
-
-  listed_front : {A : Type 0} (AreBlobs : List ℕ → List A → Type 0) (trees_of : List A → List Tree)
-      (text_of : List A → List ℕ) (fault : ConvertFault)
-      → StoppedListing AreBlobs trees_of text_of l remaining contents reader writer fault read written
-      → Wrote (ListedSlice AreBlobs text_of input) (ListedFront AreBlobs trees_of text_of l input)
-      contents writer written (Err fault)
-  listed_front AreBlobs trees_of text_of fault p = record {
-    bytes = p.text;
-    appends = p.appends;
-    agrees = (
-      record {
-        part = record {
-          whole = p.part.whole;
-          later = p.part.later;
-          bytes = p.part.bytes;
-          left = p.part.left;
-          blobs = p.part.blobs;
-          begins = subst (λ (o : Option (List ℕ)). BeginsWith o p.part.bytes) told p.part.begins;
-          cut = p.part.cut;
-          one = p.part.one;
-          holds = p.part.holds;
-        };
-        done_is = p.done;
-        told = remaining (device_of read);
-        explains = subst (λ (o : Option (List ℕ)). ExplainsListingCause trees_of text_of l o
-            (remaining (device_of read)) p.part.bytes fault.cause p.part.whole p.part.later
-            p.part.left) told p.explains;
-      },
-      p.sent,
-    );
-  }
-
-  pub ran : (what : Conversion) (answer : Result Report ConvertFault)
-      → Converts what l remaining contents reader writer read written answer
-      → Wrote (Finished what l input) (Stopped what l input) contents writer written answer
-  ran (conversion.Pack style) (Ok report) p = packed style report p.ok
-  ran (conversion.Pack style) (Err fault) p = packed_front style fault p.err
-  ran conversion.Unpack (Ok report) p = listed _ _ _ report p.ok
-  ran conversion.Unpack (Err fault) p = listed_front _ _ _ fault p.err
-  ran conversion.Show (Ok report) p = listed _ _ _ report p.ok
-  ran conversion.Show (Err fault) p = listed_front _ _ _ fault p.err
 
 -- ==== The words of the reason with a number, and how a text is copied into a buffer.
 
@@ -483,8 +291,8 @@ named n why words has e = record {
   none = λ lacks. absurd (lacks why has);
 }
 
--- a number that no cause has is that of the words for arrays, or of none
-pub unnamed : (n : ℕ) (words : List ℕ) → ((why : Cause) → HasReason n why → ⊥) → words ≡ array_words n
+-- a number that no cause has is that of the words for arrays or a column, or of none
+pub unnamed : (n : ℕ) (words : List ℕ) → ((why : Cause) → HasReason n why → ⊥) → words ≡ other_words n
     → AreWordsOf n words
 unnamed n words lacks is = record { told = λ why has. absurd (lacks why has); none = λ _. is }
 

@@ -5,3 +5,6 @@ pub mod Texts
 pub mod Polylines
 pub mod RoundedNumbers
 pub mod Samples
+pub mod ColumnNumbers
+pub mod ColumnJobs
+pub mod ColumnCalls

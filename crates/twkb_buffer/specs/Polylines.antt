@@ -41,10 +41,6 @@ abbrev pub IsRefusedPoint : List BufferPoint → PolyFault → Type 0
 IsRefusedPoint given Memory = ⊤
 IsRefusedPoint given (At place reason) = FirstOutside given place × (reason ≡ Range)
 
--- the report of a call that wrote one list of this length
-abbrev pub put_report : ℕ → BufferReport
-put_report count = record { status = 0; reason = 0; place = 0; text_offset = 0; done = 1; sent = count; needed = count }
-
 -- the report of a call that wrote nothing, with this status and the number of places it needs
 abbrev pub nothing_report : ℕ → ℕ → BufferReport
 nothing_report status needed = record {
@@ -55,7 +51,15 @@ nothing_report status needed = record {
   done = 0;
   sent = 0;
   needed = needed;
+  taken = 0;
+  taken_points = 0;
+  reserved_1 = 0;
+  reserved_2 = 0;
 }
+
+-- the report of a call that wrote one list of this length
+abbrev pub put_report : ℕ → BufferReport
+put_report count = record (nothing_report 0 count) { done = 1; sent = count }
 
 -- A list was written at the start of a slice; or the slice has fewer places than needed and is
 -- unchanged, and the report gives the number of places needed.

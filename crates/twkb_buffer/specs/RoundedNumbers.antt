@@ -10,6 +10,7 @@ use Rattle.std.specs.Float.{binary64}
 use Rattle.std.specs.Float.Ieee.{of_bits, round}
 use Rattle.std.specs.List.{AllZip}
 use Rattle.twkb_points.specs.Point.{IsCoordinate}
+use Rattle.twkb_buffer.specs.Polylines.{nothing_report}
 use Rattle.twkb_buffer.specs.declared.report.BufferReport.{BufferReport}
 
 -- ==== The number that 64 bits stand for: a sign, a significand and a power of two (IEEE 754-2019,
@@ -166,14 +167,11 @@ pub record RoundsFront (factor divisor : ℕ) (numbers : List ℕ) (old new : Li
 -- the report of a call that rounded so many numbers of all: status 0, or that the next one is
 -- refused
 abbrev pub rounded_report : ℕ → ℕ → BufferReport
-rounded_report all count = record {
-  status = cond (nat_eq count all) 0 1;
+rounded_report all count = record (nothing_report (cond (nat_eq count all) 0 1) count) {
   reason = cond (nat_eq count all) 0 26;
   place = cond (nat_eq count all) 0 count;
-  text_offset = 0;
   done = cond (nat_eq count all) 1 0;
   sent = count;
-  needed = count;
 }
 
 -- All numbers were rounded, or those before the first that is refused, as the report states.

@@ -9,17 +9,31 @@ use Rattle.twkb_buffer.specs.Numbers.{reason_number_of}
 abbrev pub HasReason : ℕ → Cause → Type 0
 HasReason number why = (reason_number_of why ≡ number) × (number ≢ 0)
 
--- the words of the reason with this number for which rows and points in arrays are refused; empty if
--- it is no such reason
-abbrev pub array_words : ℕ → List ℕ
-array_words number =
-    if number == 71 then codes "points missing" else if number == 72 then codes "points left over" else []
+-- the words of the reason with this number for which a blob can't be a field of a column; empty if it is no such reason
+abbrev pub line_words : ℕ → List ℕ
+line_words number =
+    if number == 91 then codes "no linestring" else if number == 92 then codes "another precision" else []
 
--- The words are those of the command for the reason with this number, or those for arrays, or empty
--- if no reason has this number.
+-- the words of the reason with this number for which a record of a CSV, or a blob of a column, is refused; empty if it
+-- is no such reason
+abbrev pub column_words : ℕ → List ℕ
+column_words number =
+    if number == 81 then codes "no such column" else if number == 82 then codes "column twice"
+    else if number == 83 then codes "wrong number of fields" else if number == 84 then codes "missing value"
+    else line_words number
+
+-- the words of the reason with this number that no conversion of a table or a stream has: for which rows and points in
+-- arrays, or a column, are refused; empty if it is no such reason
+abbrev pub other_words : ℕ → List ℕ
+other_words number =
+    if number == 71 then codes "points missing" else if number == 72 then codes "points left over"
+    else column_words number
+
+-- The words are those of the command for the reason with this number, or those for arrays or a column, or
+-- empty if no reason has this number.
 pub record AreWordsOf (number : ℕ) (words : List ℕ) : Type 0 where
   pub told : (why : Cause) → HasReason number why → words ≡ cause_words why
-  pub none : ((why : Cause) → HasReason number why → ⊥) → words ≡ array_words number
+  pub none : ((why : Cause) → HasReason number why → ⊥) → words ≡ other_words number
 
 -- a text with a zero byte after it, written over the bytes of a buffer, and cut if it is too long
 abbrev pub with_text : List ℕ → List ℕ → List ℕ

@@ -1,15 +1,17 @@
 //! Conversions from a slice into a slice.
 ghost use Rattle.std.specs.Prelude.{◌≡◌, ◌≢◌, ◌<◌};
-ghost use Rattle.twkb_buffer.specs.Calls.{Fills, FillsOutput, Finished, Stopped};
+ghost use Rattle.twkb_conversions.specs.Conversions.{outputs_of};
+ghost use Rattle.twkb_buffer.specs.Calls.{Fills, FillsSlice};
 ghost use Rattle.twkb_buffer.specs.Slices.{buffer_of, filled_of};
 
 use crate::filler::Filler;
 use crate::lengths::measure;
 use crate::reason_numbers::TOO_SMALL;
-use crate::report::{BufferReport, finished, stopped};
+use crate::report::{BufferReport, converted, stopped};
 use std::alloc::Global;
 use std::mem;
-use twkb_convert::{Conversion, ConvertFault, Limits, Report, Tap, convert};
+use twkb_conversions::{Conversion, convert};
+use twkb_convert::{ConvertFault, Limits, Report, Tap};
 
 // Converts a slice into the slice of a filler, which must have filled nothing, as far as there is
 // room. Returns the result of the conversion, `WriteDevice` if the room ended. During the call the
@@ -24,8 +26,7 @@ fn run_into(
 ) -> Result<Report, ConvertFault>
     requires { filled_of filler.old ≡ 0 }
     ensures same_borrow { (buffer_of filler.new).ghost_name ≡ (buffer_of filler.old).ghost_name }
-    ensures fills { Fills (Finished what limits input.now) (Stopped what limits input.now)
-        (buffer_of filler.new).now result }
+    ensures fills { Fills (outputs_of what limits input.now) (buffer_of filler.new).now result }
 {
     let mut reader = Tap::new(input);
     let mut writer = Tap::new(mem::replace(filler, Filler::new(&mut [])));
@@ -43,7 +44,7 @@ fn fill_front(
     output: &mut [u8],
     limits: Limits,
 ) -> Result<Report, ConvertFault>
-    ensures fills { Fills (Finished what limits input.now) (Stopped what limits input.now) output.new result }
+    ensures fills { Fills (outputs_of what limits input.now) output.new result }
 {
     let mut filler = Filler::new(output);
     run_into(alloc, what, input, &mut filler, limits)
@@ -52,10 +53,9 @@ fn fill_front(
 // The report with `needed` set to `whole`, the length of the whole output, if as many bytes were
 // sent as there is room for, and `whole` is more; else to 0. A length that is not known is 0. Takes
 // no memory.
-fn with_needed(report: BufferReport, whole: u64, room: usize) -> BufferReport
+pub(crate) fn with_needed(report: BufferReport, whole: u64, room: usize) -> BufferReport
     ensures same { result ≡ record report { needed = result.needed } }
     ensures only { result.needed ≢ 0 → (report.sent ≡ room) × (room < result.needed) × (result.needed ≡ whole) }
-    ensures known { report.sent ≡ room → room < whole → result.needed ≡ whole }
 {
     let is_known = report.sent == room as u64 && whole > report.sent;
     let needed = if is_known { whole } else { 0 };
@@ -72,11 +72,11 @@ pub fn fill(
     output: &mut [u8],
     limits: Limits,
 ) -> BufferReport
-    ensures { FillsOutput what limits input.now output.new result }
+    ensures { FillsSlice (outputs_of what limits input.now) output.new result }
 {
     let room = output.len();
     let fault = match fill_front(alloc, what, input, output, limits) {
-        Ok(report) => return finished(report.geometries, report.bytes),
+        Ok(report) => return converted(report),
         Err(fault) => fault,
     };
     let report = stopped(fault);

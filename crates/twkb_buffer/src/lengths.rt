@@ -1,11 +1,13 @@
 //! The length of a conversion's output.
 ghost use Rattle.std.specs.Prelude.{◌≡◌};
-ghost use Rattle.twkb_buffer.specs.Calls.{MeasuresBy, whole_length_of, MeasuresOutput};
+ghost use Rattle.twkb_conversions.specs.Conversions.{outputs_of};
+ghost use Rattle.twkb_buffer.specs.Calls.{Measures, MeasuresBy, whole_length_of};
 
-use crate::report::{BufferReport, finished, stopped};
+use crate::report::{BufferReport, converted, stopped};
 use std::alloc::Global;
 use std::io;
-use twkb_convert::{Cause, Conversion, ConvertFault, Limits, Report, Tap, convert};
+use twkb_conversions::{Conversion, convert};
+use twkb_convert::{Cause, ConvertFault, Limits, Report, Tap};
 
 // The length in bytes of the whole output of a conversion with this result: of all input, or of
 // what is before a refused record or item; `None` if the conversion stopped for another cause.
@@ -28,7 +30,7 @@ fn measured(answer: Result<Report, ConvertFault>) -> BufferReport
 {
     let needed = whole_length(answer).unwrap_or(0);
     let report = match answer {
-        Ok(report) => finished(report.geometries, report.bytes),
+        Ok(report) => converted(report),
         Err(fault) => stopped(fault),
     };
     BufferReport {
@@ -42,7 +44,7 @@ fn measured(answer: Result<Report, ConvertFault>) -> BufferReport
 /// output in bytes, also if the input is refused, or 0 if that is not known. Takes memory for one
 /// geometry.
 pub fn measure(alloc: Global, what: Conversion, input: &[u8], limits: Limits) -> BufferReport
-    ensures { MeasuresOutput what limits input.now result }
+    ensures { Measures (outputs_of what limits input.now) result }
 {
     let mut reader = Tap::new(input);
     let mut writer = Tap::new(io::sink());

@@ -2,6 +2,9 @@
 #![tactic(auto)]
 
 mod binary64;
+mod column_job;
+mod column_numbers;
+mod filled_column;
 mod filled_slice;
 mod filler;
 mod fractions;
@@ -17,6 +20,9 @@ mod rounded_numbers;
 pub mod samples;
 mod scale;
 
+pub use column_job::{ColumnConversion, JobCause, JobFault};
+pub use column_numbers::{column_number, line_number};
+pub use filled_column::fill_column;
 pub use filled_slice::fill;
 pub use lengths::measure;
 pub use point::BufferPoint;
@@ -25,4 +31,5 @@ pub use reason_numbers::{blob_number, row_number};
 pub use reason_texts::{put_reason, put_version};
 pub use report::BufferReport;
 pub use rounded_numbers::round_numbers;
-pub use twkb_convert::Conversion;
+pub use twkb_column::Column;
+pub use twkb_conversions::Conversion;

@@ -1,10 +1,10 @@
 //! The texts of reasons, by their numbers, and of the version, copied into a caller's buffer.
 ghost use Rattle.std.specs.Prelude.{◌≡◌, ◌≢◌, ◌≤◌, IfSome, IsNone, length};
 ghost use Rattle.twkb_convert.specs.declared.report.Cause.{Cause};
-ghost use Rattle.twkb_convert.specs.Conversions.{version_text};
+ghost use Rattle.twkb_convert.specs.Version.{version_text};
 ghost use Rattle.twkb_buffer.specs.Numbers.{blob_number_of, point_text_number_of, row_number_of};
 ghost use Rattle.twkb_buffer.specs.Texts.{AreWordsOf, HasReason, NamesNoBlob, NamesNoPointText, NamesNoRow, PutsText};
-ghost use Rattle.twkb_buffer.specs.Texts.{array_words, with_text};
+ghost use Rattle.twkb_buffer.specs.Texts.{other_words, with_text};
 
 use twkb_convert::{BlobReason, Cause, PolyReason, RowReason, VERSION};
 
@@ -92,15 +92,21 @@ fn cause_of(number: u32) -> Option<Cause>
     }
 }
 
-// The words of the reason with this number, 71 or 72, for which rows and points in arrays are
-// refused; the empty text for any other number.
-fn array_words(number: u32) -> &'static str
-    ensures words { result.now ≡ array_words number }
+// The words of the reason with this number, 71 or above, for which rows and points in arrays, or a
+// column, are refused; the empty text for any other number.
+fn other_words(number: u32) -> &'static str
+    ensures words { result.now ≡ other_words number }
     ensures short { length result.now ≤ 31 }
 {
     match number {
         71 => "points missing",
         72 => "points left over",
+        81 => "no such column",
+        82 => "column twice",
+        83 => "wrong number of fields",
+        84 => "missing value",
+        91 => "no linestring",
+        92 => "another precision",
         _ => "",
     }
 }
@@ -113,7 +119,7 @@ fn words_of(number: u32) -> &'static str
 {
     match cause_of(number) {
         Some(why) => why.text(),
-        None => array_words(number),
+        None => other_words(number),
     }
 }
 

@@ -1,10 +1,10 @@
 //! The report of a call.
 ghost use Rattle.std.specs.Prelude.{◌≡◌};
-ghost use Rattle.twkb_buffer.specs.Calls.{Tells};
+ghost use Rattle.twkb_buffer.specs.Calls.{HasNoMore, Tells};
 ghost use Rattle.twkb_buffer.specs.Polylines.{nothing_report};
 
 use crate::reason_numbers::{DONE, place, reason_number, status, text_offset};
-use twkb_convert::ConvertFault;
+use twkb_convert::{ConvertFault, Report};
 
 /// The result of a call that converts, measures or rounds.
 #[repr(C)]
@@ -31,6 +31,16 @@ pub struct BufferReport {
     /// `fill`, and for a polyline or for rounding, as many as `sent`; but if the output is too
     /// small, as many as are needed, or 0 if that is not known.
     pub needed: u64,
+    /// How much of the input the geometries in `done` are: of a stream bytes, of a table records
+    /// with that of the header, of arrays rows; 0 if `done` is 0, and for a polyline and for
+    /// rounding.
+    pub taken: u64,
+    /// The number of points of the rows in `taken`; of any other input 0.
+    pub taken_points: u64,
+    /// 0: room for what later versions report.
+    pub reserved_1: u64,
+    /// 0: room for what later versions report.
+    pub reserved_2: u64,
 }
 
 // The report of a call that wrote nothing, with this status and this size needed, and 0 for all
@@ -46,6 +56,10 @@ pub(crate) fn nothing_put(status: u32, needed: u64) -> BufferReport
         done: 0,
         sent: 0,
         needed,
+        taken: 0,
+        taken_points: 0,
+        reserved_1: 0,
+        reserved_2: 0,
     }
 }
 
@@ -61,13 +75,29 @@ pub(crate) fn finished(done: u64, sent: u64) -> BufferReport
     }
 }
 
+// The report of a conversion that reached its end.
+pub(crate) fn converted(report: Report) -> BufferReport
+    ensures { result ≡ record (nothing_report 0 report.bytes) {
+      done = report.geometries;
+      sent = report.bytes;
+      taken = report.taken;
+    } }
+{
+    BufferReport {
+        taken: report.taken,
+        ..finished(report.geometries, report.bytes)
+    }
+}
+
 // The report of a conversion that stopped: the status, the reason and the places of its cause, and
-// its numbers of geometries and bytes; `needed` is the number of bytes too.
+// its numbers of geometries and bytes, and what it took; `needed` is the number of bytes too.
 pub(crate) fn stopped(fault: ConvertFault) -> BufferReport
     ensures told { Tells result fault.cause }
     ensures done { result.done ≡ fault.done }
     ensures sent { result.sent ≡ fault.sent }
     ensures needed { result.needed ≡ fault.sent }
+    ensures taken { result.taken ≡ fault.taken }
+    ensures no_more { HasNoMore result }
 {
     BufferReport {
         reason: reason_number(fault.cause),
@@ -75,6 +105,7 @@ pub(crate) fn stopped(fault: ConvertFault) -> BufferReport
         text_offset: text_offset(fault.cause),
         done: fault.done,
         sent: fault.sent,
+        taken: fault.taken,
         ..nothing_put(status(fault.cause), fault.sent)
     }
 }

@@ -1,11 +1,12 @@
-//! Limits, styles and conversions, as C passes them.
+//! Limits and styles, as C passes them.
 ghost use Rattle.std.specs.Prelude.{◌≡◌, ◌≢◌, ◌↔◌, IsSome, IfSome, IsNone};
 ghost use Rattle.twkb_tree.specs.Limits.{IsAllowance};
-ghost use Rattle.twkb_c.specs.Arguments.{IsConversionNumber, IsStyleNumber, allowance_of, arguments_counts};
-ghost use Rattle.twkb_c.specs.Arguments.{arguments_report};
+ghost use Rattle.twkb_buffer.specs.Polylines.{nothing_report};
+ghost use Rattle.twkb_c.specs.Arguments.{IsStopFlag, IsStyleNumber, allowance_of};
+ghost use Rattle.twkb_c.specs.Arguments.{arguments_counts, arguments_report};
 
 use twkb_arrays::BufferCounts;
-use twkb_buffer::{BufferReport, Conversion};
+use twkb_buffer::BufferReport;
 use twkb_convert::{Limits, Style};
 
 /// Limits on one geometry.
@@ -42,34 +43,48 @@ pub(crate) fn style_of(number: u32) -> Option<Style>
     }
 }
 
-// The conversion with a number: 0 packs in this style, 1 unpacks, 2 shows; `None` for any other.
-pub(crate) fn conversion_of(number: u32, style: Style) -> Option<Conversion>
-    ensures some { IfSome result (λ what. IsConversionNumber style what number) }
-    ensures other { IsNone result → (number ≢ 0) × (number ≢ 1) × (number ≢ 2) }
+// Whether flags ask for a stop at the first geometry without room: 1 does, 0 does not; `None` for
+// any other number.
+pub(crate) fn stops_of(flags: u32) -> Option<bool>
+    ensures stops { IfSome result (λ stops. IsStopFlag stops flags) }
+    ensures other { IsNone result → (flags ≢ 0) × (flags ≢ 1) }
 {
-    match number {
-        0 => Some(Conversion::Pack(style)),
-        1 => Some(Conversion::Unpack),
-        2 => Some(Conversion::Show),
+    match flags {
+        0 => Some(false),
+        1 => Some(true),
         _ => None,
     }
 }
 
-// The status if the limits, the style or the conversion is out of range.
+// The status if an argument is out of range.
 const ARGUMENTS: u32 = 2;
+
+// The status if memory is refused.
+pub(crate) const MEMORY: u32 = 4;
 
 // The report if an argument is out of range: status 2, and 0 for all else.
 pub(crate) fn refused_arguments() -> BufferReport
     ensures { result ≡ arguments_report }
 {
+    nothing_done(ARGUMENTS)
+}
+
+// The report of a call that did nothing: this status, and 0 for all else.
+pub(crate) fn nothing_done(status: u32) -> BufferReport
+    ensures { result ≡ nothing_report status 0 }
+{
     BufferReport {
-        status: ARGUMENTS,
+        status,
         reason: 0,
         place: 0,
         text_offset: 0,
         done: 0,
         sent: 0,
         needed: 0,
+        taken: 0,
+        taken_points: 0,
+        reserved_1: 0,
+        reserved_2: 0,
     }
 }
 
@@ -86,5 +101,8 @@ pub(crate) fn refused_counts() -> BufferCounts
         points: 0,
         needed_rows: 0,
         needed_points: 0,
+        taken: 0,
+        reserved_1: 0,
+        reserved_2: 0,
     }
 }

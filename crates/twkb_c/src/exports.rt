@@ -1,17 +1,18 @@
 //! The functions for C, as declared in `include/polytwkb.h`.
 ghost use Rattle.std.specs.Prelude.{◌≡◌, ◌<◌, ◌≤◌, length};
 ghost use Rattle.twkb_tree.specs.Tree.{IsPrecision};
-ghost use Rattle.twkb_tree.specs.Limits.{IsAllowance, standard_limits};
-ghost use Rattle.twkb_grammar.specs.declared.style.Style.{Style};
-ghost use Rattle.twkb_convert.specs.Conversions.{version_text};
-ghost use Rattle.twkb_buffer.specs.Calls.{MeasuresOutput, PacksSlice, ShowsSlice, UnpacksSlice};
+ghost use Rattle.twkb_tree.specs.Limits.{standard_limits};
+ghost use Rattle.twkb_convert.specs.Version.{version_text};
+ghost use Rattle.twkb_conversions.specs.Conversions.{outputs_of};
+ghost use Rattle.twkb_buffer.specs.Calls.{FillsSlice, Measures};
 ghost use Rattle.twkb_buffer.specs.Polylines.{DecodesSlice, EncodesSlice, nothing_report};
 ghost use Rattle.twkb_buffer.specs.RoundedNumbers.{Rounds};
 ghost use Rattle.twkb_buffer.specs.Texts.{AreWordsOf, PutsText};
-ghost use Rattle.twkb_convert.specs.declared.conversion.Conversion.{Conversion};
-ghost use Rattle.twkb_c.specs.Arguments.{IsConversionNumber, IsStyleNumber, allowance_of, arguments_report};
+ghost use Rattle.twkb_c.specs.Arguments.{AreOptions, CallsConversion, allowance_of, arguments_report};
+ghost use Rattle.twkb_c.specs.Arguments.{option_at, option_limits};
 
-use crate::arguments::{BufferLimits, conversion_of, refused_arguments, style_of};
+use crate::arguments::{BufferLimits, refused_arguments, style_of};
+use crate::options::{KNOWN, STYLE, are_options, option_at, option_limits};
 use std::alloc::Global;
 use twkb_buffer::{
     BufferPoint, BufferReport, Conversion, fill, fill_points, fill_polyline, measure, put_reason,
@@ -32,9 +33,63 @@ pub extern "C" fn polytwkb_standard_limits() -> BufferLimits
     }
 }
 
-/// Packs a table into a buffer, in style 0 (full) or 1 (plain), as `fill` does. If the limits or
-/// the style are out of range, the status is 2, and the buffer is as it was. Takes memory as
-/// `twkb_convert::pack_styled` does.
+// Converts a buffer by the conversion with a number, as `fill` does, within limits and in a style as
+// C passes them. If one of these is out of range, the status is 2, and the buffer is as it was.
+fn convert_within(
+    alloc: Global,
+    conversion: u32,
+    input: &[u8],
+    output: &mut [u8],
+    limits: BufferLimits,
+    style: u32,
+) -> BufferReport
+    ensures converts { CallsConversion (λ what l. FillsSlice (outputs_of what l input.now) output.new result)
+        conversion limits style result }
+    ensures refused { result.status ≡ 2 → output.new ≡ output.old }
+{
+    let (Some(limits), Some(style)) = (limits.limits(), style_of(style)) else {
+        return refused_arguments();
+    };
+    match Conversion::numbered(conversion, style) {
+        Some(what) => fill(alloc, what, input, output, limits),
+        None => refused_arguments(),
+    }
+}
+
+/// Converts a buffer by the conversion with a number, its place in `CONVERSIONS`, as `fill` does.
+/// The options are words of 32 bits: their size in bytes, the style, 0 (full) or 1 (plain), and the
+/// three limits, of which three zeros are the standard ones. Words that are left out are 0. If the
+/// size is another one, a later word is not 0, or the conversion, the limits or the style are out of
+/// range, the status is 2, and the buffer is as it was. Takes memory as the conversion does.
+#[unsafe(no_mangle)]
+pub extern "C" fn polytwkb_convert(
+    alloc: Global,
+    conversion: u32,
+    input: &[u8],
+    output: &mut [u8],
+    options: &[u32],
+) -> BufferReport
+    ensures converts { AreOptions options.now
+        → CallsConversion (λ what l. FillsSlice (outputs_of what l input.now) output.new result)
+        conversion (option_limits options.now) (option_at options.now 1) result }
+    ensures no_options { (AreOptions options.now → ⊥) → result ≡ arguments_report }
+    ensures refused { result.status ≡ 2 → output.new ≡ output.old }
+{
+    if !are_options(options, KNOWN) {
+        return refused_arguments();
+    }
+    let limits = option_limits(options);
+    convert_within(
+        alloc,
+        conversion,
+        input,
+        output,
+        limits,
+        option_at(options, STYLE),
+    )
+}
+
+/// Packs a table into a buffer, in style 0 (full) or 1 (plain): `polytwkb_convert` with the number 0.
 #[unsafe(no_mangle)]
 pub extern "C" fn polytwkb_pack(
     alloc: Global,
@@ -43,20 +98,14 @@ pub extern "C" fn polytwkb_pack(
     limits: BufferLimits,
     style: u32,
 ) -> BufferReport
-    ensures packs { IsAllowance (allowance_of limits) → (s : Style) → IsStyleNumber s style
-        → PacksSlice s (allowance_of limits) input.now output.new result }
-    ensures limits_out_of_range { (IsAllowance (allowance_of limits) → ⊥) → result ≡ arguments_report }
-    ensures style_out_of_range { 1 < style → result ≡ arguments_report }
+    ensures packs { CallsConversion (λ what l. FillsSlice (outputs_of what l input.now) output.new result)
+        0 limits style result }
     ensures refused { result.status ≡ 2 → output.new ≡ output.old }
 {
-    let (Some(limits), Some(style)) = (limits.limits(), style_of(style)) else {
-        return refused_arguments();
-    };
-    fill(alloc, Conversion::Pack(style), input, output, limits)
+    convert_within(alloc, 0, input, output, limits, style)
 }
 
-/// Unpacks a stream into a buffer, as `fill` does. If the limits are out of range, the status is 2,
-/// and the buffer is as it was. Takes memory for one geometry and its text.
+/// Unpacks a stream into a buffer: `polytwkb_convert` with the number 1.
 #[unsafe(no_mangle)]
 pub extern "C" fn polytwkb_unpack(
     alloc: Global,
@@ -64,20 +113,15 @@ pub extern "C" fn polytwkb_unpack(
     output: &mut [u8],
     limits: BufferLimits,
 ) -> BufferReport
-    ensures unpacks { IsAllowance (allowance_of limits)
-        → UnpacksSlice (allowance_of limits) input.now output.new result }
-    ensures limits_out_of_range { (IsAllowance (allowance_of limits) → ⊥) → result ≡ arguments_report }
+    ensures unpacks { CallsConversion (λ what l. FillsSlice (outputs_of what l input.now) output.new result)
+        1 limits 0 result }
     ensures refused { result.status ≡ 2 → output.new ≡ output.old }
 {
-    let Some(limits) = limits.limits() else {
-        return refused_arguments();
-    };
-    fill(alloc, Conversion::Unpack, input, output, limits)
+    convert_within(alloc, 1, input, output, limits, 0)
 }
 
-/// Writes the lines that `show` prints for a stream into a buffer, as `fill` does. If the limits
-/// are out of range, the status is 2, and the buffer is as it was. Takes memory for one geometry,
-/// its spans and their text.
+/// Writes the lines that `show` prints for a stream into a buffer: `polytwkb_convert` with the
+/// number 2.
 #[unsafe(no_mangle)]
 pub extern "C" fn polytwkb_show(
     alloc: Global,
@@ -85,20 +129,16 @@ pub extern "C" fn polytwkb_show(
     output: &mut [u8],
     limits: BufferLimits,
 ) -> BufferReport
-    ensures shows { IsAllowance (allowance_of limits) → ShowsSlice (allowance_of limits) input.now output.new result }
-    ensures limits_out_of_range { (IsAllowance (allowance_of limits) → ⊥) → result ≡ arguments_report }
+    ensures shows { CallsConversion (λ what l. FillsSlice (outputs_of what l input.now) output.new result)
+        2 limits 0 result }
     ensures refused { result.status ≡ 2 → output.new ≡ output.old }
 {
-    let Some(limits) = limits.limits() else {
-        return refused_arguments();
-    };
-    fill(alloc, Conversion::Show, input, output, limits)
+    convert_within(alloc, 2, input, output, limits, 0)
 }
 
-/// Measures the output of a conversion in bytes, as `measure` does, and writes nothing: of packing
-/// (0) in style 0 (full) or 1 (plain), of unpacking (1) or of showing (2). If the conversion, the
-/// limits or the style, which is always looked at, are out of range, the status is 2. Takes memory
-/// as the conversion does.
+/// Measures the output of the conversion with a number in bytes, as `measure` does, and writes
+/// nothing. If the conversion, the limits or the style (0 or 1, which is always looked at) are out of
+/// range, the status is 2. Takes memory as the conversion does.
 #[unsafe(no_mangle)]
 pub extern "C" fn polytwkb_measure(
     alloc: Global,
@@ -107,17 +147,13 @@ pub extern "C" fn polytwkb_measure(
     limits: BufferLimits,
     style: u32,
 ) -> BufferReport
-    ensures measures { IsAllowance (allowance_of limits) → (s : Style) → IsStyleNumber s style
-        → (what : Conversion) → IsConversionNumber s what conversion
-        → MeasuresOutput what (allowance_of limits) input.now result }
-    ensures limits_out_of_range { (IsAllowance (allowance_of limits) → ⊥) → result ≡ arguments_report }
-    ensures style_out_of_range { 1 < style → result ≡ arguments_report }
-    ensures conversion_out_of_range { 2 < conversion → result ≡ arguments_report }
+    ensures measures { CallsConversion (λ what l. Measures (outputs_of what l input.now) result)
+        conversion limits style result }
 {
     let (Some(limits), Some(style)) = (limits.limits(), style_of(style)) else {
         return refused_arguments();
     };
-    match conversion_of(conversion, style) {
+    match Conversion::numbered(conversion, style) {
         Some(what) => measure(alloc, what, input, limits),
         None => refused_arguments(),
     }

@@ -3,4 +3,7 @@
 
 mod arguments;
 pub mod arrays;
+mod column_words;
+pub mod columns;
 pub mod exports;
+mod options;

@@ -1,17 +1,19 @@
+use Rattle.std.proofs.Common.{refl}
+use Rattle.twkb_arrays.proofs.WrittenLemmas.{writes_all, writes_within}
 use Rattle.twkb_arrays.proofs.written_arrays.write_arrays.Goals as goal
 
-pub write_all-answer-requires : goal.write_all-answer-requires
-write_all-answer-requires c = c.new-writer.ensures c.args.limits c.args.style c.args.output.now
+pub write_all-answer-requires-clause-new : goal.write_all-answer-requires-clause-new
+write_all-answer-requires-clause-new c = c.new-writer.ensures.writing c.args.limits c.args.style c.args.output.now
+    c.args.ends.now refl
 
-pub returns : goal.returns
-returns c =
-    let r = c.write_all-answer.ensures in
-    record {
-      given = r.0;
-      later = r.1;
-      written = r.2.filled;
-      stops = r.2.fit.stops;
-      answer = c.write_all-answer.result;
-      ended = r.3;
-      reported = c.reported.ensures c.args.style c.args.output.now _ r.0 r.1 r.2;
-    }
+pub returns-clause-writes : goal.returns-clause-writes
+returns-clause-writes c = λ never.
+    let w = c.write_all-answer.ensures in
+    writes_all w (c.reported.ensures c.args.style c.args.output.now c.args.ends.now _ _ w.given w.later w.has_sent
+    w.taken) never
+
+pub returns-clause-within_room : goal.returns-clause-within_room
+returns-clause-within_room c = λ may.
+    let w = c.write_all-answer.ensures in
+    writes_within w (c.reported.ensures c.args.style c.args.output.now c.args.ends.now _ _ w.given w.later w.has_sent
+    w.taken) may

@@ -1,8 +1,9 @@
 use Rattle.std.proofs.Common.{◌∙◌, Some, ap}
 use Rattle.twkb_io.specs.Taps.{device_of}
-use Rattle.twkb_buffer.specs.Calls.{Finished, Stopped}
+use Rattle.twkb_conversions.specs.Conversions.{outputs_of}
+use Rattle.twkb_conversions.proofs.ConversionLemmas.{ran}
 use Rattle.twkb_buffer.specs.Slices.{buffer_of, held}
-use Rattle.twkb_buffer.proofs.RunLemmas.{fills, moved_back, ran}
+use Rattle.twkb_buffer.proofs.RunLemmas.{fills, moved_back}
 use Rattle.twkb_buffer.proofs.filled_slice.run_into.Goals as goal
 
 pub returns : goal.returns
@@ -17,7 +18,6 @@ returns c =
     wrote.appends in
     record {
       same_borrow = front.same_borrow;
-      fills = fills (Finished c.args.what c.args.limits c.args.input.now)
-          (Stopped c.args.what c.args.limits c.args.input.now) c.convert-answer.result wrote.bytes
+      fills = fills (outputs_of c.args.what c.args.limits c.args.input.now) c.convert-answer.result wrote.bytes
           (buffer_of c.into_inner.result).now wrote.agrees front.within front.front;
     }

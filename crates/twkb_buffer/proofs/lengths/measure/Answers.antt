@@ -1,6 +1,7 @@
 use Rattle.std.proofs.Common.{Some, ap}
-use Rattle.twkb_buffer.specs.Calls.{Finished, HasLength, Stopped}
-use Rattle.twkb_buffer.proofs.RunLemmas.{whole_length, measured, ran}
+use Rattle.twkb_conversions.specs.Conversions.{outputs_of}
+use Rattle.twkb_conversions.proofs.ConversionLemmas.{ran}
+use Rattle.twkb_buffer.proofs.RunLemmas.{measured, whole_length}
 use Rattle.twkb_buffer.proofs.lengths.measure.Goals as goal
 
 pub returns : goal.returns
@@ -9,9 +10,7 @@ returns c =
     c.convert.new.reader c.convert.new.writer (ap (λ s. Some s.now) c.new-reader.ensures.device)
     c.args.what c.convert.result c.convert.ensures in
     measured
-    (Finished c.args.what c.args.limits c.args.input.now)
-    (Stopped c.args.what c.args.limits c.args.input.now)
-    (HasLength c.args.what c.args.limits c.args.input.now)
+    (outputs_of c.args.what c.args.limits c.args.input.now)
     c.convert.result
     c.measured.result
     (wrote.bytes, wrote.agrees)
