@@ -2,20 +2,16 @@
 #![tactic(auto)]
 
 use std::env;
-use std::io::BufWriter;
+use std::io::IsTerminal;
 use std::process::ExitCode;
-use twkb_command::{report_no_memory, report_unread_words, run};
-use twkb_io::{Ending, Tap};
+use twkb_command::{joined_words, read_words, refuse, report_no_memory, report_unread_words};
+use twkb_files::{Screen, convert_files};
+use twkb_io::Tap;
 
-// Runs the command with the program's words over the standard streams, and returns the exit status.
+// Carries out what the program's words ask for, over their files and the standard streams, and
+// returns the exit status.
 fn main(rt: HostRuntime) -> ExitCode {
-    // a terminal would go on after the end that it reported
-    let mut reader = Tap::new(Ending::new(rt.stdin()));
     let mut errors = Tap::new(rt.stderr());
-    let Ok(buffered) = BufWriter::new(rt.alloc(), rt.stdout()) else {
-        return ExitCode::from(report_no_memory(&mut errors));
-    };
-    let mut writer = Tap::new(buffered);
     let words = match env::args(&rt) {
         Ok(words) => words,
         Err(error) => return ExitCode::from(report_unread_words(&mut errors, error.kind())),
@@ -23,5 +19,27 @@ fn main(rt: HostRuntime) -> ExitCode {
     let Ok(words) = words.collect::<Vec<String>>(rt.alloc()) else {
         return ExitCode::from(report_no_memory(&mut errors));
     };
-    ExitCode::from(run(rt.alloc(), &words, &mut reader, &mut writer, &mut errors))
+    let Ok(joined) = joined_words(rt.alloc(), &words) else {
+        return ExitCode::from(report_no_memory(&mut errors));
+    };
+    let status = match read_words(rt.alloc(), &joined) {
+        Ok(request) => {
+            let (input, output, terminal) = (rt.stdin(), rt.stdout(), rt.stderr());
+            // an output on a terminal leaves no line to a screen
+            let is_free = request.output.is_some() || !output.is_terminal();
+            let shown = is_free && terminal.is_terminal();
+            let screen = Screen::new(&rt, if shown { Some(terminal) } else { None });
+            convert_files(
+                rt.alloc(),
+                &rt,
+                &request,
+                input,
+                output,
+                &screen,
+                &mut errors,
+            )
+        }
+        Err(refusal) => refuse(&refusal, &mut Tap::new(rt.stdout()), &mut errors),
+    };
+    ExitCode::from(status)
 }

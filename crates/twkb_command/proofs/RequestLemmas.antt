@@ -35,7 +35,8 @@ use Rattle.clap.specs.declared.error.kind.ErrorKind.{ErrorKind}
 use Rattle.clap.specs.declared.builder.action.ArgAction.TheVariants as action
 use Rattle.clap.specs.declared.builder.value_parser.ValueParser.TheVariants as parser
 use Rattle.clap.specs.declared.error.kind.ErrorKind.TheVariants as kind
-use Rattle.twkb_command.specs.CommandLine.{IsCommandLine, command_line, IsOneRequest}
+use Rattle.twkb_command.specs.Arguments.{IsCommandLine, command_line}
+use Rattle.twkb_command.specs.CommandLine.{IsOneRequest}
 
 -- ==== The command line is one whose matches `clap` specifies.
 

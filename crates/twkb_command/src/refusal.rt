@@ -1,4 +1,5 @@
 //! Answers for words that ask for no conversion.
+use crate::misuse::Misuse;
 
 /// Why words ask for no conversion.
 #[derive(PartialEq, Eq, Debug, Drop)]
@@ -11,4 +12,6 @@ pub enum Refusal {
     Version(String),
     /// The words are refused, for the reason in this text.
     Usage(String),
+    /// The words are refused: each is one of the command line, but they do not go together.
+    Misused(Misuse),
 }

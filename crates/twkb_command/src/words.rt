@@ -1,19 +1,25 @@
 //! Reading the words of a command line as a request.
-ghost use Rattle.std.specs.Prelude.{◌≡◌, [], map, string_bytes, codes, IfNone, IfOk, IfErr, IfSome, OnOk};
-ghost use Rattle.clap.specs.Words.{App, FailsBy, fault_of, first_value, found_of, kind_of, one_text, subcommand_of};
-ghost use Rattle.clap.specs.Words.{subcommand_rows_of};
-ghost use Rattle.twkb_command.specs.CommandLine.{IsCommandLine, command_line, AreLimits, AsksFor, GivesNest};
-ghost use Rattle.twkb_command.specs.CommandLine.{GivesNoNest, HasNest, IsAskedBy, IsConversionName, IsRefusal};
-ghost use Rattle.twkb_command.specs.CommandLine.{IsRefusalAmong, IsStyle, Names, NamesConversion, Reads};
+ghost use Rattle.std.specs.Prelude.{◌≡◌, [], ◌∷◌, codes, negsuc, pos, IfOk, IfErr, None, OnOk, Some};
+ghost use Rattle.clap.specs.Words.{App, FailsBy, IsSignedIn, Text, fault_of, found_of, kind_of, one_of, rows_of};
+ghost use Rattle.clap.specs.Words.{subcommand_of, subcommand_rows_of};
+ghost use Rattle.twkb_command.specs.Arguments.{IsCommandLine, command_line};
+ghost use Rattle.twkb_command.specs.CommandLine.{AsksFor, GivesNest, HasNest, HasPrecision, IsAskedBy, IsMisuse};
+ghost use Rattle.twkb_command.specs.CommandLine.{IsRefusal, IsRefusalAmong, IsSubcommand, Makes, NamesConversion};
+ghost use Rattle.twkb_command.specs.CommandLine.{Reads, words_of};
+ghost use Rattle.twkb_command.specs.Misuses.{misuse_in, misuse_of};
 
 use crate::command_line::command;
+use crate::given::{input_of, limits_of, output_of};
+use crate::jobs::job_of;
+use crate::misused::misuse_in;
 use crate::refusal::Refusal;
-use crate::request::{Request, nested_limits, style_named};
+use crate::request::Request;
 use clap::error::ErrorKind;
 use clap::{ArgMatches, Error};
 use std::alloc::Global;
-use twkb_convert::{Conversion, Style};
-use twkb_tree::Limits;
+
+// The names of the styles.
+static STYLES: [&str; 2] = ["full", "plain"];
 
 // What `clap` finds in the words of the command line, if the styles have these names. An `Err` is
 // why `clap` refuses the words, that help or the version is asked for, or that memory was refused.
@@ -21,78 +27,77 @@ use twkb_tree::Limits;
 fn matches_of<'a>(
     alloc: Global,
     styles: &'a [&'a str],
-    words: &'a [String],
+    words: &'a [&'a str],
 ) -> Result<ArgMatches<'a>, Error>
     ensures ok { IfOk result (λ m. subcommand_rows_of m ≡ subcommand_of (command_line styles.entry)
-        (map string_bytes words.entry.now)) }
+        (words_of words.entry.now)) }
     ensures named { IfOk result (λ m. NamesConversion (subcommand_rows_of m)) }
     ensures nest { IfOk result (λ m. HasNest (subcommand_rows_of m)) }
-    ensures kinds { FailsBy (fault_of (command_line styles.entry) (map string_bytes words.entry.now)) result }
+    ensures precision { IfOk result (λ m. HasPrecision (subcommand_rows_of m)) }
+    ensures kinds { FailsBy (fault_of (command_line styles.entry) (words_of words.entry.now)) result }
 {
     command(alloc, styles)?.try_get_matches_from(words)
 }
 
-// The standard limits, with the nesting that the option `--max-nest` has in a subcommand's matches,
-// if it is there; `None` if that is no number from 0 to 32.
-fn given_limits(matches: &ArgMatches<'_>) -> Option<Limits>
-    ensures some { IfSome result (AreLimits (one_text (found_of matches.now) (codes "max-nest"))) }
-    ensures none { IfNone result (GivesNoNest (one_text (found_of matches.now) (codes "max-nest"))) }
+// The request of the subcommand with this name, which must be `pack`, `unpack` or `show`, if its
+// options have no misuse. Takes memory for the words of `--null`; `Memory` if that is refused.
+fn proper_request<'a>(
+    alloc: Global,
+    name: &str,
+    matches: &ArgMatches<'a>,
+) -> Result<Request<'a>, Refusal>
+    requires named { IsSubcommand name.now }
+    requires nest { GivesNest (one_of (codes "max-nest") (rows_of (found_of matches.now))) }
+    requires precision { (digits : Text) → one_of (codes "precision") (rows_of (found_of matches.now)) ≡ Some digits
+        → IsSignedIn (negsuc 7) (pos 7) digits }
+    requires proper { misuse_in name.now (rows_of (found_of matches.now)) ≡ None }
+    ensures asked { IfOk result (Makes name.now (rows_of (found_of matches.now))) }
+    ensures refused { IfErr result (IsMisuse (misuse_in name.now (rows_of (found_of matches.now)))) }
 {
-    match matches.try_get_one::<u32>("max-nest") {
-        Ok(Some(nest)) => nested_limits(nest),
-        Ok(None) => Some(Limits::standard()),
-        Err(_) => None,
+    match job_of(alloc, name, matches) {
+        Ok(job) => Ok(Request {
+            job,
+            limits: limits_of(matches),
+            input: input_of(matches),
+            output: output_of(matches),
+        }),
+        Err(_) => Err(Refusal::Memory),
     }
 }
 
-// The standard limits, with the nesting that the option `--max-nest` has in a subcommand's matches,
-// if it is there; it must be a number from 0 to 32.
-fn limits_of(matches: &ArgMatches<'_>) -> Limits
-    requires { GivesNest (one_text (found_of matches.now) (codes "max-nest")) }
-    ensures { AreLimits (one_text (found_of matches.now) (codes "max-nest")) result }
+// The request of the subcommand with this name, which must be `pack`, `unpack` or `show`, or its
+// misuse. Takes memory as `proper_request` does.
+fn subcommand_request<'a>(
+    alloc: Global,
+    name: &str,
+    matches: &ArgMatches<'a>,
+) -> Result<Request<'a>, Refusal>
+    requires named { IsSubcommand name.now }
+    requires nest { GivesNest (one_of (codes "max-nest") (rows_of (found_of matches.now))) }
+    requires precision { (digits : Text) → one_of (codes "precision") (rows_of (found_of matches.now)) ≡ Some digits
+        → IsSignedIn (negsuc 7) (pos 7) digits }
+    ensures asked { IfOk result (Makes name.now (rows_of (found_of matches.now))) }
+    ensures proper { OnOk result (misuse_in name.now (rows_of (found_of matches.now)) ≡ None) }
+    ensures refused { IfErr result (IsMisuse (misuse_in name.now (rows_of (found_of matches.now)))) }
 {
-    match given_limits(matches) {
-        Some(limits) => limits,
-        None => unreachable!(),
+    match misuse_in(name, matches) {
+        Some(misuse) => Err(Refusal::Misused(misuse)),
+        None => proper_request(alloc, name, matches),
     }
 }
 
-// The style that the option `--style` has in a subcommand's matches: plain for `plain`, else full.
-fn style_of(matches: &ArgMatches<'_>) -> Style
-    ensures { IsStyle (first_value (found_of matches.now) (codes "style")) result }
-{
-    match matches.get_str("style") {
-        Some(name) => style_named(name),
-        None => Style::Full,
-    }
-}
-
-// The conversion of the subcommand with this name, which must be `pack`, `unpack` or `show`; that
-// of `pack` is in the style that its matches give.
-fn conversion_of(name: &str, matches: &ArgMatches<'_>) -> Conversion
-    requires { IsConversionName name.now }
-    ensures { Names name.now (first_value (found_of matches.now) (codes "style")) result }
-{
-    match name {
-        "pack" => Conversion::Pack(style_of(matches)),
-        "unpack" => Conversion::Unpack,
-        "show" => Conversion::Show,
-        _ => unreachable!(),
-    }
-}
-
-// The request that matches of `clap` make: the conversion of their subcommand, which must be
-// `pack`, `unpack` or `show`, and the limits, whose nesting must be 0 to 32.
-fn request_of(matches: &ArgMatches<'_>) -> Request
+// The request that matches of `clap` make: the job of their subcommand, which must be `pack`,
+// `unpack` or `show`, the limits, whose nesting must be 0 to 32, and the files; or their misuse.
+fn request_of<'a>(alloc: Global, matches: &ArgMatches<'a>) -> Result<Request<'a>, Refusal>
     requires named { NamesConversion (subcommand_rows_of matches.now) }
     requires nest { HasNest (subcommand_rows_of matches.now) }
-    ensures { IsAskedBy (subcommand_rows_of matches.now) result }
+    requires precision { HasPrecision (subcommand_rows_of matches.now) }
+    ensures asked { IfOk result (IsAskedBy (subcommand_rows_of matches.now)) }
+    ensures proper { OnOk result (misuse_of (subcommand_rows_of matches.now) ≡ None) }
+    ensures refused { IfErr result (IsMisuse (misuse_of (subcommand_rows_of matches.now))) }
 {
     match matches.subcommand() {
-        Some((name, inner)) => Request {
-            conversion: conversion_of(name, inner),
-            limits: limits_of(inner),
-        },
+        Some((name, inner)) => subcommand_request(alloc, name, inner),
         None => unreachable!(),
     }
 }
@@ -118,24 +123,38 @@ fn refusal_of(alloc: Global, error: &Error) -> Refusal
 }
 
 // Reads the words of a command line as `read_words` does, if the styles have these names.
-fn read_styled_words(alloc: Global, styles: &[&str], words: &[String]) -> Result<Request, Refusal>
-    ensures asked { IfOk result (AsksFor (command_line styles.entry) (map string_bytes words.now)) }
-    ensures fits { OnOk result (fault_of (command_line styles.entry) (map string_bytes words.now) ≡ []) }
+fn read_styled_words<'a>(
+    alloc: Global,
+    styles: &'a [&'a str],
+    words: &'a [&'a str],
+) -> Result<Request<'a>, Refusal>
+    ensures asked { IfOk result (AsksFor (command_line styles.entry) (words_of words.entry.now)) }
+    ensures fits { OnOk result (fault_of (command_line styles.entry) (words_of words.entry.now) ≡ []) }
+    ensures proper { OnOk result
+        (misuse_of (subcommand_of (command_line styles.entry) (words_of words.entry.now)) ≡ None) }
     ensures refused { IfErr result (IsRefusalAmong
-        (fault_of (command_line styles.entry) (map string_bytes words.now))) }
+        (fault_of (command_line styles.entry) (words_of words.entry.now))
+        (misuse_of (subcommand_of (command_line styles.entry) (words_of words.entry.now)))) }
 {
     match matches_of(alloc, styles, words) {
-        Ok(matches) => Ok(request_of(&matches)),
+        Ok(matches) => request_of(alloc, &matches),
         Err(error) => Err(refusal_of(alloc, &error)),
     }
 }
 
-/// Reads the words of a command line, the first of which is the program's name, and returns the
-/// request that they make. An `Err` is why they make none, such as that help is asked for. Takes
-/// memory to read them, and for the text of a refusal.
-pub fn read_words(alloc: Global, words: &[String]) -> Result<Request, Refusal>
-    ensures { (line : App) × IsCommandLine line × Reads line (map string_bytes words.now) result }
+// The names of the styles, at the place in memory where a command line has them.
+pub(crate) fn styles() -> &'static [&'static str]
+    ensures { words_of result.now ≡ codes "full" ∷ codes "plain" ∷ [] }
 {
-    let styles = ["full", "plain"];
-    read_styled_words(alloc, styles.as_slice(), words)
+    STYLES.as_slice()
+}
+
+/// Reads the words of a command line as `joined_words` gives them, the first of which is the
+/// program's name, and returns the request that they make; its names are in the words. An `Err` is
+/// why they make none, such as that help is asked for. Takes memory to read them, for a list of the
+/// words of `--null`, and for the text of a refusal.
+pub fn read_words<'a>(alloc: Global, words: &'a [&'a str]) -> Result<Request<'a>, Refusal>
+    ensures { (line : App) × IsCommandLine line × Reads line (words_of words.entry.now) result }
+{
+    read_styled_words(alloc, STYLES.as_slice(), words)
 }

@@ -1,5 +1,6 @@
 use Rattle.twkb_command.proofs.RequestLemmas.{kinds_line, matches_line}
-use Rattle.twkb_command.proofs.PassedLemmas.{named_line, nest_line}
+use Rattle.twkb_command.proofs.PassedLemmas.{named_line}
+use Rattle.twkb_command.proofs.ValueLemmas.{nest_line, precision_line}
 use Rattle.twkb_command.proofs.words.matches_of.Goals as goal
 
 pub returns : goal.returns
@@ -12,5 +13,6 @@ returns c =
       ok = matches;
       named = named_line _ parse.result _ kinds matches;
       nest = nest_line _ parse.result _ kinds matches;
+      precision = precision_line _ parse.result _ kinds matches;
       kinds = kinds;
     }

@@ -11,6 +11,7 @@ returns c =
     (record {
       asked = read.asked;
       fits = read.fits;
+      proper = read.proper;
       refused = read.refused;
       one_request = line_one styles _;
     })

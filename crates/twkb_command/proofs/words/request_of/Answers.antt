@@ -1,22 +1,25 @@
-use Rattle.std.proofs.Common.{codes, sym, subst}
+use Rattle.std.proofs.Common.{subst}
 use Rattle.clap.specs.Words.{found_of, rows_of}
-use Rattle.clap.proofs.WalkLemmas.{first_value-rows, one_text-rows}
-use Rattle.twkb_command.specs.CommandLine.{GivesNest, HasNest}
+use Rattle.twkb_command.specs.CommandLine.{HasNest, HasPrecision, NamesConversion}
 use Rattle.twkb_command.proofs.RequestLemmas.{used_is}
 use Rattle.twkb_command.proofs.words.request_of.Goals as goal
 
-pub limits_of-requires : goal.limits_of-requires
-limits_of-requires c =
-    let inner = c.in-Some.inner.now in
-    let used = used_is c.args.matches.now c.in-Some.name.now (rows_of (found_of inner))
+pub subcommand_request-requires : goal.subcommand_request-requires
+subcommand_request-requires c =
+    let used = used_is c.args.matches.now c.in-Some.name.now (rows_of (found_of c.in-Some.inner.now))
     c.in-Some.ensures.name c.in-Some.ensures.rows in
-    subst GivesNest (sym (one_text-rows (found_of inner) (codes "max-nest"))) (subst HasNest used c.requires.nest)
+    record {
+      named = subst NamesConversion used c.requires.named;
+      nest = subst HasNest used c.requires.nest;
+      precision = subst HasPrecision used c.requires.precision;
+    }
 
 pub returns : goal.returns
 returns c =
-    let inner = c.in-Some.inner.now in
-    let used = used_is c.args.matches.now c.in-Some.name.now (rows_of (found_of inner))
+    let used = used_is c.args.matches.now c.in-Some.name.now (rows_of (found_of c.in-Some.inner.now))
     c.in-Some.ensures.name c.in-Some.ensures.rows in
-    let text = one_text-rows (found_of inner) (codes "max-nest") in
-    let style = first_value-rows (found_of inner) (codes "style") in
-    rw used (rw (← style) c.conversion_of.ensures, rw (← text) c.limits_of.ensures)
+    rw used (record {
+      asked = c.subcommand_request.ensures.asked;
+      proper = c.subcommand_request.ensures.proper;
+      refused = c.subcommand_request.ensures.refused;
+    })

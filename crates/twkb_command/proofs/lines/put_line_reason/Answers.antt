@@ -1,0 +1,12 @@
+use Rattle.twkb_command.proofs.RefusalLemmas.{prints_join, short_line_reason}
+use Rattle.twkb_command.proofs.lines.put_line_reason.Goals as goal
+
+pub returns-clause-prints : goal.returns-clause-prints
+returns-clause-prints g c =
+    let join = prints_join g.W.Write.contents in
+    join _ _ _ _ _ c.put_text.ensures (join _ _ _ _ _ c.put_decimal.ensures.prints
+    (join _ _ _ _ _ c.put_text-2.ensures (rw c.text.ensures.words at c.put_text-3.ensures)))
+
+pub returns-clause-short : goal.returns-clause-short
+returns-clause-short g c = short_line_reason c.args.offset c.args.reason c.put_decimal.ensures.short
+    c.text.ensures.short

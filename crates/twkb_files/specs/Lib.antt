@@ -1,0 +1,1 @@
+-- What the contracts say stands in their clauses.
