@@ -10,7 +10,13 @@ from refusing import Refusing
 
 NEST, POINTS = 32, 10000
 HEADER_LINE = b"depth,kind,id,precision,polyline\n"
-TABLE = HEADER_LINE + b"".join(b"%d,collection,,0,\n" % depth for depth in range(NEST)) + b"%d,linestring,,0," % NEST + b"AC" * POINTS + b"\n"
+TABLE = (
+    HEADER_LINE
+    + b"".join(b"%d,collection,,0,\n" % depth for depth in range(NEST))
+    + b"%d,linestring,,0," % NEST
+    + b"AC" * POINTS
+    + b"\n"
+)
 
 # Points, rows and ids at several depths: each list of a reader or a writer is used.
 GEOMETRY = b"0,collection,,0,\n1,linestring,5,0,ACAC\n1,multipoint,6,0,\n2,point,7,,AC\n2,point,8,,AC\n1,polygon,9,0,\n2,ring,,,ACAC\n"

@@ -21,7 +21,8 @@ extern void *__libc_malloc(size_t);
 extern void *__libc_realloc(void *, size_t);
 
 enum { GROWTH, READ, WRITE, ERRORS, ZERO, SHORT_READ, SHORT_WRITE, SHORT_ERRORS, KINDS };
-static const char *const names[KINDS] = {"growth=", "read=", "write=", "errors=", "zero=", "short_read=", "short_write=", "short_errors="};
+static const char *const names[KINDS] = {
+    "growth=", "read=", "write=", "errors=", "zero=", "short_read=", "short_write=", "short_errors="};
 static uint64_t least[KINDS], most[KINDS]; /* the calls that fail: none where both are 0 */
 static uint64_t own_counts[KINDS];
 static uint64_t *counts = own_counts;
@@ -100,6 +101,10 @@ static ssize_t write_by(void *caller, int file, const void *from, size_t size) {
     return syscall(SYS_write, file, from, size);
 }
 
-ssize_t write(int file, const void *from, size_t size) { return write_by(__builtin_return_address(0), file, from, size); }
+ssize_t write(int file, const void *from, size_t size) {
+    return write_by(__builtin_return_address(0), file, from, size);
+}
 
-ssize_t __write(int file, const void *from, size_t size) { return write_by(__builtin_return_address(0), file, from, size); }
+ssize_t __write(int file, const void *from, size_t size) {
+    return write_by(__builtin_return_address(0), file, from, size);
+}

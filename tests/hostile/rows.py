@@ -27,7 +27,15 @@ NINE_LINES += b"8 32 collection 0 12 3 0\n"
 ROWS = [
     Row("pack a collection", ["pack"], MEMBERS, MEMBERS_BLOB, b"", 0, {0, 18}),
     Row("pack it plainly", ["pack", "--style", "plain"], MEMBERS, MEMBERS_PLAIN, b"", 0, {0, 11}),
-    Row("pack a table whose last row is refused", ["pack"], REFUSED, POINT_BLOB, b"polytwkb: record 4: unknown kind\n", 1, {0, 5}),
+    Row(
+        "pack a table whose last row is refused",
+        ["pack"],
+        REFUSED,
+        POINT_BLOB,
+        b"polytwkb: record 4: unknown kind\n",
+        1,
+        {0, 5},
+    ),
     Row("pack polygons", ["pack"], POLYGONS, POLYGONS_BLOB, b"", 0, {0, 16}),
     Row("pack nine collections", ["pack", "--max-nest", "8"], NINE, NINE_BLOB, b"", 0, {0, 35}),
     Row("unpack a collection", ["unpack"], MEMBERS_BLOB, MEMBERS, b"", 0, {0, 33, len(MEMBERS)}),

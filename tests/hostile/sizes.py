@@ -130,7 +130,11 @@ def streams(command):
     deep = [nest(32) * 100] * 100
     yield "32 collections, 16 allowed", deep, [refusal("byte 50: nested too deep", first)]
     points = [b"\x02\x00\x80\x80\x80\x08"] + [bytes(MILLION)] * ENDLESS
-    text = b"0,linestring,,0," + b"?" * 2**25 + b"\n" if command == "unpack" else b"0 0 linestring 0 00 33554438 16777216\n"
+    text = (
+        b"0,linestring,,0," + b"?" * 2**25 + b"\n"
+        if command == "unpack"
+        else b"0 0 linestring 0 00 33554438 16777216\n"
+    )
     behind = refusal("byte 33554438: unknown type", first + text)
     yield "2^24 points, and 0 without end behind them", points, [behind, no_memory(first)]
     yield "0 without end", [bytes(MILLION)] * ENDLESS, [refusal("byte 0: unknown type", first)]
@@ -164,7 +168,9 @@ def cases(limit, little):
         for name, pieces, answers in streams(command):
             yield name, [command], pieces, answers, limit
         deep = HEADER_LINE + nest_rows(32) * TIMES if command == "unpack" else nest_lines(32, TIMES)
-        yield "10,000 times 32 collections", [command, "--max-nest", "32"], [nest(32) * 100] * (TIMES // 100), [done(deep)], limit
+        yield "10,000 times 32 collections", [command, "--max-nest", "32"], [nest(32) * 100] * (TIMES // 100), [
+            done(deep)
+        ], limit
     for name, pieces, answers in tables():
         yield name, ["pack"], pieces, answers, limit
     rows, blobs = [HEADER_LINE] + [nest_rows(32)] * TIMES, canonical_nest(32) * TIMES

@@ -7,6 +7,7 @@ use twkb_buffer::BufferPoint;
 use twkb_geom::Limits;
 
 mod lines;
+mod stopping;
 mod writing;
 
 // A row: its depth, its kind, its number of points, its id and its precision.
@@ -62,12 +63,14 @@ fn rows_of(given: &[Given]) -> [BufferRow; MOST] {
     rows
 }
 
-// A reading: the bytes, the room for rows and for points, and the counts.
+// A reading: the bytes, the room for rows, points and ends, whether it stops, and the counts.
 struct Reading {
     name: &'static str,
     blobs: &'static [u8],
     row_room: usize,
     point_room: usize,
+    end_room: usize,
+    stops: bool,
     // status, reason and place
     ends: (u32, u32, u64),
     // geometries, rows and points in the arrays
@@ -76,12 +79,14 @@ struct Reading {
     needed: (u64, u64),
 }
 
-const READINGS: [Reading; 9] = [
+const READINGS: [Reading; 14] = [
     Reading {
         name: "all room",
         blobs: BLOBS,
         row_room: 6,
         point_room: 5,
+        end_room: 2,
+        stops: false,
         ends: (0, 0, 0),
         given: (2, 4, 3),
         needed: (4, 3),
@@ -91,6 +96,8 @@ const READINGS: [Reading; 9] = [
         blobs: BLOBS,
         row_room: 4,
         point_room: 3,
+        end_room: 2,
+        stops: false,
         ends: (0, 0, 0),
         given: (2, 4, 3),
         needed: (4, 3),
@@ -100,6 +107,8 @@ const READINGS: [Reading; 9] = [
         blobs: b"",
         row_room: 0,
         point_room: 0,
+        end_room: 2,
+        stops: false,
         ends: (0, 0, 0),
         given: (0, 0, 0),
         needed: (0, 0),
@@ -109,6 +118,8 @@ const READINGS: [Reading; 9] = [
         blobs: BLOBS,
         row_room: 3,
         point_room: 5,
+        end_room: 2,
+        stops: false,
         ends: (5, 0, 0),
         given: (1, 3, 1),
         needed: (4, 3),
@@ -118,6 +129,8 @@ const READINGS: [Reading; 9] = [
         blobs: BLOBS,
         row_room: 6,
         point_room: 2,
+        end_room: 2,
+        stops: false,
         ends: (5, 0, 0),
         given: (1, 3, 1),
         needed: (4, 3),
@@ -127,6 +140,8 @@ const READINGS: [Reading; 9] = [
         blobs: BLOBS,
         row_room: 2,
         point_room: 5,
+        end_room: 2,
+        stops: false,
         ends: (5, 0, 0),
         given: (0, 0, 0),
         needed: (4, 3),
@@ -136,6 +151,8 @@ const READINGS: [Reading; 9] = [
         blobs: BLOBS,
         row_room: 0,
         point_room: 0,
+        end_room: 2,
+        stops: false,
         ends: (5, 0, 0),
         given: (0, 0, 0),
         needed: (4, 3),
@@ -145,6 +162,8 @@ const READINGS: [Reading; 9] = [
         blobs: b"\x07\x04\x02\x0e\x01\x01\x00\x02\x02\x02\x10\x02\x00\x02\x02\x02\x08",
         row_room: 6,
         point_room: 5,
+        end_room: 2,
+        stops: false,
         ends: (1, 41, 17),
         given: (1, 3, 1),
         needed: (3, 1),
@@ -154,11 +173,77 @@ const READINGS: [Reading; 9] = [
         blobs: b"\x07\x04\x02\x0e\x01\x01\x00\x02\x02\x02\x10\x02\x00\x02\x02\x02\x08",
         row_room: 2,
         point_room: 1,
+        end_room: 2,
+        stops: false,
         ends: (5, 0, 0),
         given: (0, 0, 0),
         needed: (3, 1),
     },
+    Reading {
+        name: "no ends",
+        blobs: BLOBS,
+        row_room: 6,
+        point_room: 5,
+        end_room: 0,
+        stops: false,
+        ends: (0, 0, 0),
+        given: (2, 4, 3),
+        needed: (4, 3),
+    },
+    Reading {
+        name: "too few ends",
+        blobs: BLOBS,
+        row_room: 6,
+        point_room: 5,
+        end_room: 1,
+        stops: false,
+        ends: (5, 0, 0),
+        given: (1, 3, 1),
+        needed: (4, 3),
+    },
+    Reading {
+        name: "stops at once",
+        blobs: BLOBS,
+        row_room: 2,
+        point_room: 5,
+        end_room: 2,
+        stops: true,
+        ends: (5, 0, 0),
+        given: (0, 0, 0),
+        needed: (3, 1),
+    },
+    Reading {
+        name: "stops at the second",
+        blobs: BLOBS,
+        row_room: 6,
+        point_room: 2,
+        end_room: 2,
+        stops: true,
+        ends: (5, 0, 0),
+        given: (1, 3, 1),
+        needed: (4, 3),
+    },
+    Reading {
+        name: "may stop, and has room",
+        blobs: BLOBS,
+        row_room: 6,
+        point_room: 5,
+        end_room: 2,
+        stops: true,
+        ends: (0, 0, 0),
+        given: (2, 4, 3),
+        needed: (4, 3),
+    },
 ];
+
+// Where the first geometries of the worked blobs end.
+fn end_after(done: u64) -> u64 {
+    match done {
+        0 => 0,
+        1 => 11,
+        _ => 18,
+    }
+}
 
 fn counts_of(reading: &Reading) -> BufferCounts {
     BufferCounts {
@@ -170,6 +255,9 @@ fn counts_of(reading: &Reading) -> BufferCounts {
         points: reading.given.2,
         needed_rows: reading.needed.0,
         needed_points: reading.needed.1,
+        taken: end_after(reading.given.0),
+        reserved_1: 0,
+        reserved_2: 0,
     }
 }
 
@@ -205,22 +293,47 @@ fn has_points(points: &[BufferPoint], count: usize) -> bool {
     true
 }
 
+// A place of ends that no call writes.
+const UNWRITTEN_END: u64 = 9;
+
+// Whether the first ends are those of the worked blobs, and the others are as no call writes them.
+fn has_ends(ends: &[u64], count: u64) -> bool {
+    for (at, end) in ends.iter().enumerate() {
+        let done = (at as u64).saturating_add(1);
+        let right = if done > count {
+            UNWRITTEN_END
+        } else {
+            end_after(done)
+        };
+        if *end != right {
+            return false;
+        }
+    }
+    true
+}
+
 // Whether a reading gives its counts, writes the rows and points that they count, and leaves the
 // places after them as they were.
 fn is_read(alloc: Global, reading: &Reading) -> bool {
     let mut rows = [row_of(&UNWRITTEN); MOST];
     let mut points = [UNWRITTEN_POINT; 5];
     let row_room = reading.row_room.min(MOST);
+    let mut ends = [UNWRITTEN_END; 3];
     let point_room = reading.point_room.min(5);
+    let end_room = reading.end_room.min(3);
     let counts = read_arrays(
         alloc,
         reading.blobs,
         &mut rows[..row_room],
         &mut points[..point_room],
+        &mut ends[..end_room],
         Limits::standard(),
+        reading.stops,
     );
     let has_counts = counts == counts_of(reading);
+    let end_count = if end_room == 0 { 0 } else { reading.given.0 };
     has_counts
+        & has_ends(&ends, end_count)
         & has_rows(&rows, reading.given.1 as usize)
         & has_points(&points, reading.given.2 as usize)
 }

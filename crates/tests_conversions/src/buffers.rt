@@ -13,33 +13,49 @@ const TABLE: &[u8] = b"depth,kind,id,precision,polyline\n0,linestring,,0,AAGG\n"
 
 const BLOB: &[u8] = b"\x02\x00\x02\x02\x02\x08\x08";
 
-// A conversion, its input, and its whole output.
+// A conversion, its input, how much of it that is by its own measure, and its whole output.
 #[derive(Clone, Copy)]
 struct Converted {
     what: Conversion,
     input: &'static [u8],
+    taken: u64,
     output: &'static [u8],
 }
 
-const CONVERTED: [Converted; 3] = [
+const CONVERTED: [Converted; 5] = [
     Converted {
         what: Conversion::Pack(Style::Plain),
         input: TABLE,
+        taken: 2,
         output: BLOB,
     },
     Converted {
         what: Conversion::Unpack,
         input: BLOB,
+        taken: 7,
         output: TABLE,
     },
     Converted {
         what: Conversion::Show,
         input: BLOB,
+        taken: 7,
         output: b"0 0 linestring 0 00 7 2\n",
+    },
+    Converted {
+        what: Conversion::Geojson,
+        input: BLOB,
+        taken: 7,
+        output: b"{\"type\":\"LineString\",\"coordinates\":[[1,1],[5,5]]}\n",
+    },
+    Converted {
+        what: Conversion::Headers,
+        input: BLOB,
+        taken: 7,
+        output: b"\0\0\0\0\0\0\0\0\x07\0\0\0\0\0\0\0\x02\0\0\0\0\0\0\0\0\0\0\0\x02\0\0\0",
     },
 ];
 
-// The report for one geometry converted to `sent` bytes.
+// The report of a call that did all, which wrote `sent` items and took no input by its measure.
 fn report_of(sent: u64, needed: u64) -> BufferReport {
     BufferReport {
         status: 0,
@@ -49,6 +65,10 @@ fn report_of(sent: u64, needed: u64) -> BufferReport {
         done: 1,
         sent,
         needed,
+        taken: 0,
+        taken_points: 0,
+        reserved_1: 0,
+        reserved_2: 0,
     }
 }
 
@@ -56,13 +76,18 @@ fn report_of(sent: u64, needed: u64) -> BufferReport {
 // measured.
 fn is_converted(alloc: Global, row: &Converted) -> bool {
     let limits = Limits::standard();
-    let due = row.output.len() as u64;
-    let mut room = [0u8; 56];
-    let is_filled = fill(alloc, row.what, row.input, &mut room, limits) == report_of(due, due);
+    let length = row.output.len() as u64;
+    let due = BufferReport {
+        taken: row.taken,
+        ..report_of(length, length)
+    };
+    let mut room = [0u8; 60];
+    let is_filled = fill(alloc, row.what, row.input, &mut room, limits) == due;
+    let measured = BufferReport { sent: 0, ..due };
     is_filled
         && room.starts_with(row.output)
         && room.ends_with(b"\0\0")
-        && measure(alloc, row.what, row.input, limits) == report_of(0, due)
+        && measure(alloc, row.what, row.input, limits) == measured
 }
 
 #[test]
@@ -88,6 +113,54 @@ fn has_a_front(alloc: Global) -> bool {
 #[test]
 fn a_small_room_has_a_front(rt: HostRuntime) {
     assert!(rt; has_a_front(rt.alloc()));
+}
+
+const TWO_ROWS: &[u8] =
+    b"depth,kind,id,precision,polyline\n0,linestring,,0,AAGG\n0,linestring,,0,AAGG\n";
+
+const TWO_BLOBS: &[u8] = b"\x02\x00\x02\x02\x02\x08\x08\x02\x00\x02\x02\x02\x08\x08";
+
+// The first ten bytes of them.
+const CUT_BLOBS: &[u8] = b"\x02\x00\x02\x02\x02\x08\x08\x02\x00\x02";
+
+// A conversion of two lines, the room for its output, and the output's length; and how many of the
+// lines are whole in the room, and how much of the input they are.
+const TAKEN: [(Conversion, &[u8], usize, u64, u64, u64); 7] = [
+    (Conversion::Pack(Style::Plain), TWO_ROWS, 6, 14, 0, 0),
+    (Conversion::Pack(Style::Plain), TWO_ROWS, 7, 14, 1, 2),
+    (Conversion::Pack(Style::Plain), TWO_ROWS, 13, 14, 1, 2),
+    (Conversion::Unpack, TWO_BLOBS, 53, 75, 0, 0),
+    (Conversion::Unpack, TWO_BLOBS, 54, 75, 1, 7),
+    (Conversion::Show, TWO_BLOBS, 47, 48, 1, 7),
+    (Conversion::Show, CUT_BLOBS, 0, 24, 0, 0),
+];
+
+// Whether all these conversions fill their rooms, and take the geometries that are whole there.
+fn take_the_whole_ones(alloc: Global) -> bool {
+    let mut are_right = true;
+    for (what, input, size, needed, done, taken) in TAKEN {
+        let mut room = [0u8; 80];
+        let report = fill(
+            alloc,
+            what,
+            input,
+            &mut room[..size.min(80)],
+            Limits::standard(),
+        );
+        let due = BufferReport {
+            status: 5,
+            done,
+            taken,
+            ..report_of(size as u64, needed)
+        };
+        are_right = are_right & (report == due);
+    }
+    are_right
+}
+
+#[test]
+fn what_is_taken_are_the_geometries_whole_in_the_room(rt: HostRuntime) {
+    assert!(rt; take_the_whole_ones(rt.alloc()));
 }
 
 // A table whose point is cut: it has only a latitude.

@@ -118,13 +118,32 @@ polytwkb pack --style Plain > 'Plain'
 polytwkb pack --style > --style
 polytwkb pack --style plain --style plain > --style
 polytwkb unpack --style plain > --style
+polytwkb unpack --geojson=true > 'true'
+polytwkb unpack --geojson --geojson > --geojson
+polytwkb pack --geojson > --geojson
+polytwkb show --geojson > --geojson
+polytwkb pack --precision 5 > --column
+polytwkb pack --ids a > --column
+polytwkb pack --column a > --precision
+polytwkb pack --column a --precision 5 --hex=x > 'x'
+polytwkb pack --column a --precision 5 --hex=bare --hex=bare > '--hex=bare'
+polytwkb pack --column a --precision 5 --hex --ids a > --ids
+polytwkb pack --column a --precision 8 > '8'
+polytwkb pack --column a --precision -9 > '-9'
+polytwkb pack --column a --precision 5 --delimiter ;; > --delimiter
+polytwkb unpack --column a --geojson > --geojson
+polytwkb unpack --collection > --geojson
+polytwkb unpack --hex > --column
+polytwkb unpack --column a --hex=x > 'x'
+polytwkb unpack --precision 5 > --precision
+polytwkb show --column a > --column
 polytwkb show --style full > --style
  > subcommand
 polytwkb > subcommand
 polytwkb help > 'help'
 polytwkb more > 'more'
-polytwkb pack more > 'more'
-polytwkb pack pack > 'pack'
+polytwkb pack more most > 'most'
+polytwkb pack -o more -o most > --output
 polytwkb pack --unknown > '--unknown'
 polytwkb pack --version > '--version'";
 
@@ -176,9 +195,13 @@ struct Run {
     output: &'static [u8],
 }
 
+// Three lines of precision -1: of (2, 1), without a point, and of (2, 1).
+const COLUMN_BLOBS: &[u8] = b"\x12\x03\x07\x04\x00\x02\x00\x01\x04\x02\x12\x12\x00\
+    \x12\x03\x07\x04\x00\x02\x00\x01\x04\x02";
+
 const CUT_STREAM: &[u8] = b"\x01\x00\x04\x02\x01\x00\x04";
 
-const RUNS: [Run; 7] = [
+const RUNS: [Run; 13] = [
     Run {
         line: "polytwkb pack",
         input: b"depth,kind,id,precision,polyline\n0,point,,0,AC\n0,point,,0,AA\n0,pont,,0,\n",
@@ -221,6 +244,44 @@ const RUNS: [Run; 7] = [
         input: COLLECTION_BLOB,
         status: 0,
         output: COLLECTION_LINES,
+    },
+    Run {
+        line: "polytwkb unpack --geojson",
+        input: COLLECTION_BLOB,
+        status: 0,
+        output: b"{\"type\":\"GeometryCollection\",\"ids\":[7,-1],\"geometries\":[{\"type\":\"Point\",\
+            \"coordinates\":[1,1]},{\"type\":\"LineString\",\"coordinates\":[]}]}\n",
+    },
+    Run {
+        line: "polytwkb unpack --geojson --collection",
+        input: CUT_STREAM,
+        status: 1,
+        output: b"{\"type\":\"FeatureCollection\",\"features\":[\n{\"type\":\"Feature\",\"properties\":{},\
+            \"geometry\":{\"type\":\"Point\",\"coordinates\":[2,1]}}",
+    },
+    Run {
+        line: "polytwkb pack --column line --precision -1 --null NULL --null -",
+        input: b"id,line\n1,AC\n2,NULL\n3,AC\n",
+        status: 0,
+        output: COLUMN_BLOBS,
+    },
+    Run {
+        line: "polytwkb pack --hex=bare --column line --precision -1",
+        input: b"id,line\n1,AC\n2,\n3,A\n",
+        status: 1,
+        output: b"id,line\n1,12030704000200010402\n",
+    },
+    Run {
+        line: "polytwkb unpack --hex --column line",
+        input: b"id,line\n1,\\x12030704000200010402\n2,\n3,0102020402\n",
+        status: 1,
+        output: b"id,line\n1,AC\n2,\n",
+    },
+    Run {
+        line: "polytwkb unpack --column line",
+        input: COLUMN_BLOBS,
+        status: 0,
+        output: b"line\nAC\n\"\"\nAC\n",
     },
 ];
 

@@ -3,7 +3,8 @@
 use example_callers::Account;
 use std::alloc::Global;
 use std::io::{Read, Write};
-use twkb_convert::{Conversion, ConvertFault, Report, convert};
+use twkb_conversions::{Conversion, convert};
+use twkb_convert::{ConvertFault, Report};
 use twkb_geom::Limits;
 use twkb_io::{Fuse, FuseEnd, Tap};
 
@@ -45,8 +46,8 @@ pub fn short_writer(alloc: Global, taken: u64) -> Tap<Fuse<Vec<u8>>> {
 
 // ---- conversions over devices that report how they were called
 
-// The account of an answer.
-fn account_of(answer: Result<Report, ConvertFault>) -> Account {
+/// The account of an answer.
+pub fn account_of(answer: Result<Report, ConvertFault>) -> Account {
     match answer {
         Ok(report) => Account {
             done: report.geometries,

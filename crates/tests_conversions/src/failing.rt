@@ -6,7 +6,8 @@ use example_callers::Account;
 use std::alloc::Global;
 use std::io;
 use std::io::{ErrorKind, Read};
-use twkb_convert::{Cause, Conversion, Style};
+use twkb_conversions::Conversion;
+use twkb_convert::{Cause, Style};
 use twkb_io::{Ending, FuseEnd, Tap};
 
 // ---- worked tables and streams between devices, with each read, each write and the flush failing

@@ -9,16 +9,32 @@ mod buffers;
 #[cfg(test)]
 mod callers;
 #[cfg(test)]
+mod collection;
+#[cfg(test)]
+mod column;
+#[cfg(test)]
 mod command;
 #[cfg(test)]
 mod devices;
 #[cfg(test)]
 mod failing;
 #[cfg(test)]
+mod geojson;
+#[cfg(test)]
+mod hex_column;
+#[cfg(test)]
+mod joined_rest;
+#[cfg(test)]
 mod order;
+#[cfg(test)]
+mod packed_rest;
 #[cfg(test)]
 mod printing;
 #[cfg(test)]
 mod table;
+#[cfg(test)]
+mod unpacked_column;
+#[cfg(test)]
+mod unpacked_hex;
 #[cfg(test)]
 mod worked;

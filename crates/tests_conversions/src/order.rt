@@ -2,7 +2,8 @@
 //! packing.
 use crate::devices::{Failing, SOUND, carried};
 use std::alloc::Global;
-use twkb_convert::{Cause, Conversion, Style, Work, pack_counted};
+use twkb_conversions::Conversion;
+use twkb_convert::{Cause, Style, Work, pack_counted};
 use twkb_geom::Limits;
 use twkb_io::Tap;
 

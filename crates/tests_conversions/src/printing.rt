@@ -158,6 +158,7 @@ const TEXTS_OF_CAUSES: [(Cause, &str); 7] = [
 const STOP: ConvertFault = ConvertFault {
     done: 7,
     sent: 9,
+    taken: 12,
     cause: BAD_SIZE,
 };
 

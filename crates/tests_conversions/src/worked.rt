@@ -1,5 +1,6 @@
 //! Conversions worked out by hand.
-use twkb_convert::{BlobReason, Cause, Conversion, RowReason, Style};
+use twkb_conversions::Conversion;
+use twkb_convert::{BlobReason, Cause, RowReason, Style};
 
 /// A conversion, its input and its whole output: that of no geometry, of one or, for a table, of two.
 #[derive(Clone, Copy)]
@@ -35,8 +36,19 @@ const MEMBERS: &[u8] =
 const MEMBERS_BLOB: &[u8] =
     b"\x07\x07\x0f\x02\x00\x02\x00\x02\x0e\x01\x01\x02\x02\x02\x02\x02\x12\x00";
 
+const MEMBERS_GEOJSON: &[u8] =
+    b"{\"type\":\"GeometryCollection\",\"ids\":[7,-1],\"geometries\":[{\"type\":\"Point\",\"coordinates\":[1,1]},\
+    {\"type\":\"LineString\",\"coordinates\":[]}]}\n";
+
 const MEMBERS_LINES: &[u8] =
     b"0 0 collection 0 07 18 1\n1 10 point 0 02 5 1\n1 15 linestring 0 12 3 0\n";
+
+// Of each: offset, length and points, of eight bytes; level, of four; type, precision, metadata
+// byte and 0.
+const MEMBERS_HEADERS: &[u8] =
+    b"\0\0\0\0\0\0\0\0\x12\0\0\0\0\0\0\0\x01\0\0\0\0\0\0\0\0\0\0\0\x07\0\x07\0\
+    \x0A\0\0\0\0\0\0\0\x05\0\0\0\0\0\0\0\x01\0\0\0\0\0\0\0\x01\0\0\0\x01\0\x02\0\
+    \x0F\0\0\0\0\0\0\0\x03\0\0\0\0\0\0\0\0\0\0\0\0\0\0\0\x01\0\0\0\x02\0\x12\0";
 
 // A line of fourteen points, each 2^20 units further along x and one more down along y than the
 // one before: with numbers of four bytes and of five characters, which fill the first piece of
@@ -98,8 +110,32 @@ const SHOWN: Worked = Worked {
     stopped: None,
 };
 
+const LISTED: Worked = Worked {
+    name: "the headers of a collection are listed",
+    what: Conversion::Headers,
+    input: MEMBERS_BLOB,
+    output: MEMBERS_HEADERS,
+    before: 0,
+    first: 96,
+    whole: 18,
+    reads: 19,
+    stopped: None,
+};
+
+const MAPPED: Worked = Worked {
+    name: "a collection is unpacked to GeoJSON",
+    what: Conversion::Geojson,
+    input: MEMBERS_BLOB,
+    output: MEMBERS_GEOJSON,
+    before: 0,
+    first: 134,
+    whole: 18,
+    reads: 19,
+    stopped: None,
+};
+
 /// A table is read to its end, except a refused one: that is not read after its last row.
-pub const WORKED: [Worked; 18] = [
+pub const WORKED: [Worked; 23] = [
     PACKED,
     Worked {
         name: "two points are packed",
@@ -241,5 +277,36 @@ pub const WORKED: [Worked; 18] = [
         reads: 1,
         stopped: Some(BAD_TYPE),
         ..SHOWN
+    },
+    LISTED,
+    Worked {
+        name: "the header of a point of precision -8 is listed",
+        input: b"\xF1\x02\x02\x04\x02",
+        output: b"\0\0\0\0\0\0\0\0\x05\0\0\0\0\0\0\0\x01\0\0\0\0\0\0\0\0\0\0\0\x01\xF8\x02\0",
+        first: 32,
+        whole: 5,
+        reads: 6,
+        ..LISTED
+    },
+    Worked {
+        name: "the header of a point before a cut blob is listed",
+        input: CUT,
+        output: b"\0\0\0\0\0\0\0\0\x04\0\0\0\0\0\0\0\x01\0\0\0\0\0\0\0\0\0\0\0\x01\0\0\0",
+        first: 32,
+        whole: 4,
+        reads: 8,
+        stopped: Some(CUT_BLOB),
+        ..LISTED
+    },
+    MAPPED,
+    Worked {
+        name: "a point before a cut blob is unpacked to GeoJSON",
+        input: CUT,
+        output: b"{\"type\":\"Point\",\"coordinates\":[2,1]}\n",
+        first: 37,
+        whole: 4,
+        reads: 8,
+        stopped: Some(CUT_BLOB),
+        ..MAPPED
     },
 ];

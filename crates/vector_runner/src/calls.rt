@@ -162,7 +162,7 @@ fn put_next(alloc: Global, answer: Result<Option<u8>, InFault>, text: &mut Vec<u
     }
 }
 
-// Prints the answers to calls for a byte, then the number of bytes given and of failures.
+// Prints the answers to so many calls for a byte, then the number of bytes given and of failures.
 fn put_calls<R: Read>(alloc: Global, tap: &mut Tap<R>, calls: u32, text: &mut Vec<u8>) {
     let mut input = Input::new(tap);
     for _ in 0..calls {

@@ -5,18 +5,18 @@ use super::text::{
     put_stop, table_of,
 };
 use std::alloc::Global;
-use twkb_command::{read_words, run};
-use twkb_convert::{Conversion, ConvertFault, Report, Style, convert};
+use twkb_command::{joined_words, read_words, run};
+use twkb_conversions::{Conversion, convert};
+use twkb_convert::{ConvertFault, Report, Style};
 use twkb_geom::Limits;
 use twkb_io::Tap;
 
-// The word of a conversion.
-fn word_of(what: Conversion) -> &'static [u8] {
+// The word of a conversion: its style, or its name if it has none.
+fn word_of(what: Conversion) -> &'static str {
     match what {
-        Conversion::Unpack => b"\n  unpack",
-        Conversion::Show => b"\n  show",
-        Conversion::Pack(Style::Full) => b"\n  full",
-        Conversion::Pack(Style::Plain) => b"\n  plain",
+        Conversion::Pack(Style::Full) => "full",
+        Conversion::Pack(Style::Plain) => "plain",
+        _ => what.words().name,
     }
 }
 
@@ -41,10 +41,11 @@ pub fn put_conversion(
     let mut writer = Tap::new(Vec::new(alloc));
     let answer = convert(alloc, what, &mut reader, &mut writer, limits);
     let written = writer.into_inner();
-    put_counts(alloc, text, word_of(what), &counts_of(answer));
+    put(text, b"\n  ");
+    put_counts(alloc, text, word_of(what).as_bytes(), &counts_of(answer));
     match what {
-        Conversion::Unpack | Conversion::Show => put_lines(text, &written),
         Conversion::Pack(_) => put_hex(alloc, text, &written),
+        _ => put_lines(text, &written),
     }
     put_stop(alloc, text, answer.err());
     written
@@ -72,12 +73,12 @@ fn words_of(alloc: Global, line: &str) -> Vec<String> {
     words
 }
 
-// Prints a word and the output after it: as digits if it begins with a control character,
-// otherwise as lines.
+// Prints a word and the output after it: as digits if it begins with a control character or no
+// ASCII, otherwise as lines.
 fn put_output(alloc: Global, word: &[u8], output: &[u8], text: &mut Vec<u8>) {
     put(text, word);
     match output.first() {
-        Some(byte) if *byte < b' ' => put_hex(alloc, text, output),
+        Some(byte) if *byte < b' ' || *byte > b'~' => put_hex(alloc, text, output),
         _ => put_lines(text, output),
     }
 }
@@ -112,6 +113,8 @@ fn put_run_over(alloc: Global, line: &str, input: &[u8], text: &mut Vec<u8>) {
 
 /// Prints the request that the words of a line make: a conversion, three limits and a style.
 pub fn put_request(alloc: Global, line: &str, text: &mut Vec<u8>) {
-    let request = read_words(alloc, &words_of(alloc, line)).ok();
+    let words = words_of(alloc, line);
+    let joined = joined_words(alloc, &words).unwrap_or(Vec::new(alloc));
+    let request = read_words(alloc, &joined).ok();
     put_named(alloc, text, b"\n  asks for ", &request);
 }

@@ -25,7 +25,8 @@ use crate::values::{
 use std::alloc::Global;
 use std::io;
 use std::io::{BufWriter, Write};
-use twkb_convert::{Conversion, Style};
+use twkb_conversions::Conversion;
+use twkb_convert::Style;
 use twkb_geom::Limits;
 use twkb_num::{Five, Leb128};
 

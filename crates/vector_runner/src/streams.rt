@@ -33,7 +33,7 @@ fn put_flat_blob(alloc: Global, flat: &Flat, blobs: &mut Vec<u8>) {
     put(blobs, &sink.into_vec());
 }
 
-// Appends spans.
+// Appends a line of text for each span.
 fn put_spans(alloc: Global, spans: &[Span], lines: &mut Vec<u8>) {
     for span in spans {
         put_named(alloc, lines, b"\n  ", span);
@@ -57,7 +57,8 @@ fn read_tree<R: Read>(
     }
 }
 
-// Reads a tree with its spans, appends the spans, and returns whether there was one.
+// Reads a tree with its spans, appends a line of text for each span, drops the tree, and returns
+// whether there was one.
 fn read_located<R: Read>(
     alloc: Global,
     reader: &mut Reader<'_, R>,

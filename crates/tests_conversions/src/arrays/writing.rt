@@ -182,7 +182,28 @@ static WRITINGS: [Writing; 12] = [
     },
 ];
 
+// The numbers of rows and points of the geometries in the output: those before the next root.
+fn taken_by(writing: &Writing) -> (u64, u64) {
+    let (mut roots, mut rows, mut points) = (0, 0, 0);
+    for row in &writing.rows[..writing.row_count.min(writing.rows.len())] {
+        if row.0 == 0 {
+            roots = u64::saturating_add(roots, 1);
+        }
+        if roots > writing.given.0 {
+            return (rows, points);
+        }
+        rows = u64::saturating_add(rows, 1);
+        points = u64::saturating_add(points, row.2);
+    }
+    if writing.given.0 == 0 {
+        (0, 0)
+    } else {
+        (rows, points)
+    }
+}
+
 fn report_of(writing: &Writing) -> BufferReport {
+    let (rows, points) = taken_by(writing);
     BufferReport {
         status: writing.ends.0,
         reason: writing.ends.1,
@@ -192,6 +213,10 @@ fn report_of(writing: &Writing) -> BufferReport {
         done: writing.given.0,
         sent: writing.given.1,
         needed: writing.given.2,
+        taken: rows,
+        taken_points: points,
+        reserved_1: 0,
+        reserved_2: 0,
     }
 }
 
@@ -212,8 +237,10 @@ fn write(alloc: Global, writing: &Writing, style: Style, output: &mut [u8]) -> B
         &rows[..row_count],
         &writing.points[..point_count],
         &mut output[..room],
+        &mut [],
         Limits::standard(),
         style,
+        false,
     )
 }
 
