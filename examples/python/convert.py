@@ -21,9 +21,11 @@ class Limits(ctypes.Structure):
 
 
 class Report(ctypes.Structure):
-    _fields_ = [("status", ctypes.c_uint32), ("reason", ctypes.c_uint32)] + [
-        (name, ctypes.c_uint64) for name in ("place", "text_offset", "done", "sent", "needed")
+    _fields_ = [("status", ctypes.c_uint32), ("reason", ctypes.c_uint32)]
+    _fields_ += [
+        (name, ctypes.c_uint64) for name in ("place", "text_offset", "done", "sent", "needed", "taken", "taken_points")
     ]
+    _fields_ += [("reserved", 2 * ctypes.c_uint64)]
 
 
 class Refused(ValueError):

@@ -8,42 +8,22 @@ import argparse
 import os
 import signal
 import sys
-from typing import Any, Callable, Dict, List, Optional, Tuple
+from typing import Optional, Tuple
 
-from . import Header, Limits, Refused, __version__, pack, show, unpack
+from . import Limits, Refused, __version__
+from ._conversions import COMMANDS
 from ._reasons import Status
 
-
-def lines_of(headers: List[Header]) -> bytes:
-    """The lines of `show`."""
-    return "".join(f"{h.level} {h.offset} {h.kind} {h.precision} {h.metadata:02X} {h.length} {h.points}\n" for h in headers).encode()
-
-
-# Each command: what it does, its call, and the bytes of what that returns.
-COMMANDS: Dict[str, Tuple[str, Callable[..., Any], Callable[[Any], bytes]]] = {
-    "pack": (
-        "Reads a table and writes a stream of blobs, one for each geometry",
-        lambda given, words, limits: pack(given, words.style, limits),
-        bytes,
-    ),
-    "unpack": (
-        "Reads a stream of blobs and writes a table, the header line first",
-        lambda given, words, limits: unpack(given, limits),
-        str.encode,
-    ),
-    "show": (
-        "Reads a stream of blobs and writes a line for each TWKB header in it",
-        lambda given, words, limits: show(given, limits),
-        lines_of,
-    ),
-}
 NEST = "how many collections a geometry may be in, 0 to 32 (16)"
+GEOJSON = "a line of GeoJSON for each geometry, in place of the table"
 STYLE = "full: blobs with sizes and boxes; plain: without (full)"
 
 
 def parser() -> argparse.ArgumentParser:
     words = argparse.ArgumentParser(
-        prog="polytwkb", allow_abbrev=False, description="Converts between CSV tables of encoded polylines and streams of TWKB blobs.",
+        prog="polytwkb",
+        allow_abbrev=False,
+        description="Converts between CSV tables of encoded polylines and streams of TWKB blobs.",
         epilog="Each command reads standard input and writes standard output: polytwkb pack < places.csv > places.twkb",
     )
     words.add_argument("-V", "--version", action="version", version=f"polytwkb {__version__}")
@@ -53,6 +33,8 @@ def parser() -> argparse.ArgumentParser:
         command.add_argument("--max-nest", type=int, choices=range(33), default=16, metavar="N", help=NEST)
         if name == "pack":
             command.add_argument("--style", choices=["full", "plain"], default="full", help=STYLE)
+        if name == "unpack":
+            command.add_argument("--geojson", action="store_true", help=GEOJSON)
     return words
 
 
@@ -79,7 +61,7 @@ def write(output: bytes) -> bool:
     rest = memoryview(output)
     try:
         while rest:
-            rest = rest[os.write(1, rest):]
+            rest = rest[os.write(1, rest) :]
     except OSError:
         return False
     return True
@@ -90,7 +72,8 @@ def run(words: argparse.Namespace) -> Tuple[int, Optional[str]]:
     given = read()
     if given is None:
         # as the program, which writes a table's first line before it reads
-        output, status = unpack(b"").encode() if words.command == "unpack" else b"", Status.DEVICE
+        output, _ = converted(words, b"") if words.command == "unpack" else (b"", None)
+        status = Status.DEVICE
         line: Optional[str] = "read failed"
     else:
         output, line = converted(words, given)

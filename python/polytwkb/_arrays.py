@@ -2,16 +2,14 @@
 from __future__ import annotations
 
 from array import array
-from typing import Any, List, NamedTuple, Optional, Sequence, Tuple
+from typing import Any, NamedTuple, Optional, Tuple
 
-from ._columns import POINT, Points
+from ._columns import POINT, Points, points_on
 from ._conversions import Buffer, Limits, _bytes, _limits
 from ._degrees import to_degrees
-from ._library import CLimits, library
-from ._memory import Memory, address_of, memory_of, shortened
-from ._offsets import offsets_of
-from ._reasons import First, Status
-from ._refused import Refused
+from ._memory import Memory, shortened
+from ._reading import END, Part, of_counts, read_all
+from ._reasons import Status
 from ._rows import ROW, Rows
 
 
@@ -28,48 +26,51 @@ class Arrays(_Pair):
       10^-precision, int64.
     """
 
-    _blobs: Tuple[bytes, CLimits, int]
-    _offsets: array[int]
+    _part: Optional[Part] = None
+    _begin: int = 0
+    _offsets: Optional[array[int]] = None
 
     @property
     def offsets(self) -> array[int]:
         """Where the blob of each geometry begins in the stream, in bytes, and where the last one ends: 64-bit integers,
-        one more than there are geometries."""
-        if not hasattr(self, "_offsets"):
-            self._offsets = offsets_of(*self._blobs)
+        one more than there are geometries. Raises AttributeError if the arrays were made by hand, of rows and points.
+        """
+        part = self._part
+        if self._offsets is None and part:
+            self._offsets, self._part = part.offsets(self._begin), None
+        if self._offsets is None:
+            raise AttributeError("these arrays were not read from a stream: Packed(write(rows, points)) has offsets")
         return self._offsets
 
     def __reduce__(self) -> Tuple[Any, ...]:
-        return _arrays_of, (self.rows, self.points, self.offsets)
+        return _arrays_of, (self.rows, self.points, self.offsets if self._part else self._offsets)
 
 
-def _arrays_of(rows: Rows, points: Points, offsets: array[int]) -> Arrays:
+def _arrays_of(rows: Rows, points: Points, offsets: Optional[array[int]]) -> Arrays:
     arrays = Arrays(rows, points)
     arrays._offsets = offsets
     return arrays
 
 
-def _arrays(memories: Sequence[Memory], counts: Any, degrees: bool) -> Arrays:
-    """What a reading made in memory, without a copy."""
-    rows, points = memories
-    rows, points = shortened(rows, ROW * counts.rows), shortened(points, POINT * counts.points)
-    found = Rows(memoryview(rows)[: ROW * counts.rows])
-    # No two columns could be made of nothing.
-    view = memoryview(points)[: max(counts.points, 1) * POINT].cast("q")
-    if degrees:
-        view = to_degrees(found, view)
-    columns = view.cast("B").cast(view.format, [max(counts.points, 1), 2])
-    return Arrays(found, Points(columns[: counts.points]))
+def in_arrays(rows: Memory, points: Memory, row_count: int, point_count: int, degrees: bool) -> Arrays:
+    """So many rows and points in memory, without a copy."""
+    rows, points = shortened(rows, ROW * row_count), shortened(points, POINT * point_count)
+    found = Rows(memoryview(rows)[: ROW * row_count])
+    view = memoryview(points)[: max(point_count, 1) * POINT].cast("q")
+    return Arrays(found, points_on(to_degrees(found, view) if degrees else view, point_count))
 
 
-def _read(given: bytes, rooms: Tuple[int, int], limits: CLimits) -> Tuple[Any, List[Memory]]:
-    """One reading into memory for so many rows and points."""
-    memories = [memory_of(max(room, 1) * size) for room, size in zip(rooms, (ROW, POINT))]
-    rows, points = map(address_of, memories)
-    return library.polytwkb_read(given, len(given), rows, rooms[0], points, rooms[1], limits), memories
+def arrays_of(part: Part, degrees: bool, begin: int = 0) -> Arrays:
+    """What was read, of a stream from that byte on."""
+    counts = part.counts
+    arrays = in_arrays(part.rows, part.points, counts.rows, counts.points, degrees)
+    none = bytearray()
+    arrays._part = Part(counts, none, none, shortened(part.ends, END * counts.done))
+    arrays._begin = begin
+    return arrays
 
 
-def read(blobs: Buffer, limits: Optional[Limits] = None, *, degrees: bool = True) -> Arrays:
+def read(blobs: Buffer, *, limits: Optional[Limits] = None, degrees: bool = True) -> Arrays:
     """The geometries of a stream of blobs as rows and points, in their order.
 
     Points have the shape (n, 2). They are in degrees (float64): each coordinate is the float nearest to the number of
@@ -80,18 +81,9 @@ def read(blobs: Buffer, limits: Optional[Limits] = None, *, degrees: bool = True
     Raises Refused at the first item that is wrong, with its byte as the place; its `output` has the rows and points of
     the blobs before. Raises TypeError for what is no buffer.
     """
-    given, most = _bytes(blobs, "a stream of blobs is bytes"), _limits(limits)
-    try:
-        # A row has a byte at least, and a point has two.
-        counts, memories = _read(given, (len(given), len(given) // 2), most)
-    except MemoryError:
-        counts, _ = _read(given, (0, 0), most)
-        counts, memories = _read(given, (counts.needed_rows, counts.needed_points), most)
-    if counts.status not in (Status.DONE, Status.REFUSED):
-        raise MemoryError("out of memory")
-    arrays = _arrays(memories, counts, degrees)
-    arrays._blobs = given, most, counts.done
-    if counts.status == Status.REFUSED:
-        where = "" if counts.reason >= First.WHOLE else f"byte {counts.place}"
-        raise Refused(counts.reason, where, counts.place, 0, counts.done, arrays)
+    given = _bytes(blobs, "a stream of blobs is bytes")
+    part = read_all(given, 0, len(given), _limits(limits))
+    arrays = arrays_of(part, degrees)
+    if part.counts.status == Status.REFUSED:
+        raise of_counts(part.counts, arrays)
     return arrays

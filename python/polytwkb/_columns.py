@@ -64,13 +64,16 @@ class Points:
         return zip(self.x, self.y)
 
     @overload
-    def __getitem__(self, key: int) -> Tuple[Any, Any]: ...
+    def __getitem__(self, key: int) -> Tuple[Any, Any]:
+        ...
 
     @overload
-    def __getitem__(self, key: slice) -> Points: ...
+    def __getitem__(self, key: slice) -> Points:
+        ...
 
     @overload
-    def __getitem__(self, key: Tuple[int, int]) -> Any: ...
+    def __getitem__(self, key: Tuple[int, int]) -> Any:
+        ...
 
     def __getitem__(self, key: Union[int, slice, Tuple[int, int]]) -> Any:
         view: Any = self.view
@@ -102,6 +105,11 @@ class Points:
 
     def __reduce__(self) -> Tuple[Any, ...]:
         return _points_of, (self.format, self.tobytes())
+
+
+def points_on(flat: memoryview, count: int) -> Points:
+    """So many points on memory that has room for one at least, since no two columns could be made of nothing."""
+    return Points(flat.cast("B").cast(flat.format, [max(count, 1), 2])[:count])
 
 
 def in_columns(flat: array[Any]) -> Points:

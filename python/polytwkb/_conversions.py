@@ -1,17 +1,39 @@
 """Tables to streams, and streams to tables, headers and blobs."""
 from __future__ import annotations
 
+import functools
 import mmap
 import operator
+import struct
 from array import array
-from typing import Any, Callable, List, NamedTuple, Optional, TypeVar, Union
+from typing import Any, Callable, Dict, List, NamedTuple, Optional, Protocol, Tuple, TypeVar, Union
 
-from ._library import CLimits, filled, library, some_bytes
-from ._offsets import Packed, ends_of
+from ._library import CLimits, filled, library, options_of, some_bytes
+from ._offsets import Packed
+from ._reading import of_counts, offsets_read
 from ._reasons import Status
 from ._refused import of_report
 
-Buffer = Union[bytes, bytearray, memoryview, "array[Any]", mmap.mmap]
+
+class Conversion:
+    """The numbers of the conversions, as in include/polytwkb.h."""
+
+    PACK = 0
+    UNPACK = 1
+    SHOW = 2
+    GEOJSON = 3
+    HEADERS = 4
+
+
+class NumpyArray(Protocol):
+    """What an array of numpy is known by: it has a buffer too."""
+
+    @property
+    def __array_interface__(self) -> Dict[str, Any]:
+        ...
+
+
+Buffer = Union[bytes, bytearray, memoryview, "array[Any]", mmap.mmap, NumpyArray]
 _Result = TypeVar("_Result")
 
 
@@ -46,8 +68,16 @@ class Header(NamedTuple):
     """Points of its geometry."""
 
 
+# The formats of buffers of numbers.
+_NUMBERS = set("cbB?hHiIlLqQnNefd")
 _RANGES = ((0, 32), (1, 1 << 20), (0, 1 << 24))
 _STYLES = {"full": 0, "plain": 1}
+# Tables have two to three times as many bytes as their streams, and GeoJSON and headers of most up to seven. What is not
+# written takes no memory.
+_ROOM, _LARGE_ROOM = 4, 8
+# A header as the library writes it: offset, length, points, level, kind, precision, metadata.
+_HEADER = struct.Struct("<QQQIBbBx")
+_KINDS = ("", "point", "linestring", "polygon", "multipoint", "multilinestring", "multipolygon", "collection")
 
 
 def _limits(limits: Optional[Limits]) -> CLimits:
@@ -68,9 +98,12 @@ def _bytes(given: Any, what: str) -> bytes:
     if isinstance(given, bytes):
         return given
     try:
-        return memoryview(given).tobytes()
-    except TypeError:
+        view = memoryview(given)
+    except (TypeError, ValueError):
         raise TypeError(f"{what}, not {type(given).__name__}") from None
+    if view.format.lstrip("@=<>!") not in _NUMBERS:
+        raise TypeError(f"{what}, not {type(given).__name__} with items of format {view.format!r}")
+    return view.tobytes()
 
 
 def style_of(style: str) -> int:
@@ -82,20 +115,46 @@ def style_of(style: str) -> int:
     return _STYLES[style]
 
 
+def is_chosen(name: str, word: str, other: str) -> bool:
+    """Whether an option, which is 'raise' or another word, is the other one."""
+    if not isinstance(word, str):
+        raise TypeError(f"{name} is a str, not {type(word).__name__}")
+    if word not in ("raise", other):
+        raise ValueError(f"{name} is 'raise' or {other!r}, not {word!r}")
+    return word == other
+
+
 def table_bytes(table: Union[str, Buffer]) -> bytes:
     """The bytes of a table."""
-    return table.encode("utf-8", "surrogatepass") if isinstance(table, str) else _bytes(table, "a table is a str or bytes")
+    return (
+        table.encode("utf-8", "surrogatepass") if isinstance(table, str) else _bytes(table, "a table is a str or bytes")
+    )
 
 
 def _converted(
-    call: Callable[..., Any], given: bytes, room: int, result: Callable[[memoryview], _Result], limits: Optional[Limits], *more: int
+    conversion: int,
+    given: bytes,
+    room: int,
+    result: Callable[[memoryview], _Result],
+    limits: Optional[Limits],
+    style: int = 0,
 ) -> _Result:
     """What `result` makes of the bytes that a conversion writes."""
-    report, output = filled(call, given, len(given), room, some_bytes, _limits(limits), *more)
+    call = functools.partial(library.polytwkb_convert, conversion)
+    options = options_of(_limits(limits), style)
+    report, output = filled(call, given, len(given), room, some_bytes, options, len(options))
     found = result(memoryview(output)[: report.sent])
     if report.status == Status.REFUSED:
         raise of_report(report, found)
     return found
+
+
+def _listed(
+    conversion: int, blobs: Buffer, times: int, result: Callable[[memoryview], _Result], limits: Optional[Limits]
+) -> _Result:
+    """What `result` makes of what is written for a stream: so many times as many bytes, by a first guess."""
+    given = _bytes(blobs, "a stream of blobs is bytes")
+    return _converted(conversion, given, times * len(given) + 64, result, limits)
 
 
 def _text(output: memoryview) -> str:
@@ -103,44 +162,53 @@ def _text(output: memoryview) -> str:
 
 
 def _headers(output: memoryview) -> List[Header]:
-    headers = []
-    for line in _text(output).splitlines():
-        level, offset, kind, precision, metadata, length, points = line.split(" ")
-        headers.append(Header(int(level), int(offset), kind, int(precision), int(metadata, 16), int(length), int(points)))
-    return headers
+    return [
+        Header(level, offset, _KINDS[kind], precision, metadata, length, points)
+        for offset, length, points, level, kind, precision, metadata in _HEADER.iter_unpack(output)
+    ]
 
 
-def pack(table: Union[str, Buffer], style: str = "full", limits: Optional[Limits] = None) -> bytes:
+def pack(table: Union[str, Buffer], *, style: str = "full", limits: Optional[Limits] = None) -> bytes:
     """Packs a table to a stream of blobs: with sizes and boxes, or ``"plain"``, without either.
 
     Raises Refused at the first record that is wrong; its `output` has the blobs of the geometries before. Raises TypeError
     if the table is no str and no buffer, ValueError for another style.
     """
     number, given = style_of(style), table_bytes(table)
-    return _converted(library.polytwkb_pack, given, len(given) + 64, bytes, limits, number)
+    return _converted(Conversion.PACK, given, len(given) + 64, bytes, limits, number)
 
 
-def unpack(blobs: Buffer, limits: Optional[Limits] = None) -> str:
+def unpack(blobs: Buffer, *, limits: Optional[Limits] = None) -> str:
     """Unpacks a stream of blobs to a table.
 
     Raises Refused at the first item that is wrong; its `output` has the table of the blobs before. Raises TypeError for
     what is no buffer.
     """
-    given = _bytes(blobs, "a stream of blobs is bytes")
-    return _converted(library.polytwkb_unpack, given, 2 * len(given) + 64, _text, limits)
+    return _listed(Conversion.UNPACK, blobs, _ROOM, _text, limits)
 
 
-def show(blobs: Buffer, limits: Optional[Limits] = None) -> List[Header]:
+def to_geojson(blobs: Buffer, *, limits: Optional[Limits] = None) -> str:
+    """The geometries of a stream of blobs as text of GeoJSON, a line for each: ``text.splitlines()`` is a list of them.
+
+    Coordinates are exact decimals, so no number is rounded to a float: 7.5 at precision 5 is ``7.5``. Members with ids
+    give the geometry a member ``ids``, before its coordinates. A point without coordinates has ``[]``.
+
+    Raises Refused at the first item that is wrong; its `output` has the lines of the blobs before. Raises TypeError for
+    what is no buffer.
+    """
+    return _listed(Conversion.GEOJSON, blobs, _LARGE_ROOM, _text, limits)
+
+
+def show(blobs: Buffer, *, limits: Optional[Limits] = None) -> List[Header]:
     """The headers in a stream, in their order. A header of level 0 is that of a blob, those of higher levels are inside it.
 
     Raises Refused at the first item that is wrong; its `output` has the headers of the blobs before. Raises TypeError for
     what is no buffer.
     """
-    given = _bytes(blobs, "a stream of blobs is bytes")
-    return _converted(library.polytwkb_show, given, 2 * len(given) + 64, _headers, limits)
+    return _listed(Conversion.HEADERS, blobs, _LARGE_ROOM, _headers, limits)
 
 
-def split(blobs: Buffer, limits: Optional[Limits] = None) -> List[bytes]:
+def split(blobs: Buffer, *, limits: Optional[Limits] = None) -> List[bytes]:
     """The blobs of a stream, each as bytes of its own. Those of a `Packed` that have sizes are found by them, without
     reading the stream.
 
@@ -150,9 +218,35 @@ def split(blobs: Buffer, limits: Optional[Limits] = None) -> List[bytes]:
     if isinstance(blobs, Packed) and limits is None:
         return [blob for blob in blobs.blobs if blob is not None]
     given = _bytes(blobs, "a stream of blobs is bytes")
+    counts, offsets = offsets_read(given, _limits(limits))
+    found = [given[start:end] for start, end in zip(offsets, offsets[1:])]
+    if counts.status == Status.REFUSED:
+        raise of_counts(counts, found)
+    return found
 
-    def result(lines: memoryview) -> List[bytes]:
-        ends = ends_of(lines)
-        return [given[start:end] for start, end in zip([0, *ends], ends)]
 
-    return _converted(library.polytwkb_show, given, 2 * len(given) + 64, result, limits)
+def _lines(headers: List[Header]) -> bytes:
+    """The lines of `show`."""
+    return "".join(
+        f"{h.level} {h.offset} {h.kind} {h.precision} {h.metadata:02X} {h.length} {h.points}\n" for h in headers
+    ).encode()
+
+
+# Each conversion of the command: what it does, its call, and the bytes of what that returns.
+COMMANDS: Dict[str, Tuple[str, Callable[..., Any], Callable[[Any], bytes]]] = {
+    "pack": (
+        "Reads a table and writes a stream of blobs, one for each geometry",
+        lambda given, words, limits: pack(given, style=words.style, limits=limits),
+        bytes,
+    ),
+    "unpack": (
+        "Reads a stream of blobs and writes a table, the header line first",
+        lambda given, words, limits: (to_geojson if words.geojson else unpack)(given, limits=limits),
+        str.encode,
+    ),
+    "show": (
+        "Reads a stream of blobs and writes a line for each TWKB header in it",
+        lambda given, words, limits: show(given, limits=limits),
+        _lines,
+    ),
+}

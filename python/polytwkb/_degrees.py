@@ -7,6 +7,7 @@ from itertools import repeat
 from operator import truediv
 from typing import Any, Iterator, List, Tuple, Union
 
+from ._memory import address_of_bytes, memory_of
 from ._rounding import NotFinite, round_floats
 from ._rows import NO_PRECISION, Rows
 
@@ -103,14 +104,16 @@ def _first_not_finite(numpy: Any, numbers: Any) -> None:
         raise NotFinite(int(places[0]), numbers[places[0]])
 
 
-def to_units(rows: Rows, degrees: memoryview) -> array[int]:
-    """The units of floats x, y, x, y, .. In place of one that has no unit it has a number that is out of range. Raises
-    NotFinite if one is not finite."""
-    units, parts = array("q", bytes(degrees.nbytes)), by_precision(rows, len(degrees) // 2)
-    for precision, chosen in parts:
+def to_units(rows: Rows, floats: Union[bytes, array[float]]) -> memoryview:
+    """The units of floats x, y, x, y, .. of 64 bits. In place of one that has no unit they have a number that is out of
+    range. Raises NotFinite if one is not finite."""
+    degrees = memoryview(floats).cast("B").cast("d")
+    address = address_of_bytes(floats) if isinstance(floats, bytes) else floats.buffer_info()[0]
+    units = memoryview(memory_of(max(degrees.nbytes, 8)))[: degrees.nbytes].cast("q")
+    for precision, chosen in by_precision(rows, len(degrees) // 2):
         if isinstance(chosen, slice):
             try:
-                round_floats(degrees[chosen], precision, memoryview(units)[chosen])
+                round_floats(degrees[chosen], address + 8 * chosen.start, precision, units[chosen])
             except NotFinite as fault:
                 raise NotFinite(chosen.start + fault.place, degrees[chosen.start + fault.place]) from None
         else:
@@ -119,6 +122,6 @@ def to_units(rows: Rows, degrees: memoryview) -> array[int]:
             _first_not_finite(numpy, given)
             some = given.reshape(-1, 2)[chosen].reshape(-1)
             own = numpy.zeros(len(some), numpy.int64)
-            round_floats(memoryview(some), precision, memoryview(own))
+            round_floats(memoryview(some), some.ctypes.data, precision, memoryview(own))
             made.reshape(-1, 2)[chosen] = own.reshape(-1, 2)
     return units

@@ -4,18 +4,26 @@ from __future__ import annotations
 from typing import Any, Dict, List, Literal, Optional, Tuple, overload
 
 from ._arrays import Arrays
-from ._conversions import Buffer, Limits
-from ._lists import Blobs, Listed, checked_errors, in_places, read_blobs
+from ._conversions import Buffer, Limits, is_chosen
+from ._lists import Blobs, Listed, in_places, read_blobs
 from ._rows import Kind
 
 _POINT, _COLLECTION = Kind.POINT, Kind.COLLECTION
 NAMES: Dict[int, str] = {
-    Kind.POINT: "Point", Kind.LINESTRING: "LineString", Kind.POLYGON: "Polygon", Kind.MULTIPOINT: "MultiPoint",
-    Kind.MULTILINESTRING: "MultiLineString", Kind.MULTIPOLYGON: "MultiPolygon", Kind.COLLECTION: "GeometryCollection",
+    Kind.POINT: "Point",
+    Kind.LINESTRING: "LineString",
+    Kind.POLYGON: "Polygon",
+    Kind.MULTIPOINT: "MultiPoint",
+    Kind.MULTILINESTRING: "MultiLineString",
+    Kind.MULTIPOLYGON: "MultiPolygon",
+    Kind.COLLECTION: "GeometryCollection",
 }
 # The kind of the parts of a kind that has parts.
 PARTS: Dict[int, Kind] = {
-    Kind.POLYGON: Kind.RING, Kind.MULTIPOINT: Kind.POINT, Kind.MULTILINESTRING: Kind.LINESTRING, Kind.MULTIPOLYGON: Kind.POLYGON,
+    Kind.POLYGON: Kind.RING,
+    Kind.MULTIPOINT: Kind.POINT,
+    Kind.MULTILINESTRING: Kind.LINESTRING,
+    Kind.MULTIPOLYGON: Kind.POLYGON,
 }
 
 Mapping = Dict[str, Any]
@@ -76,31 +84,36 @@ def mappings_of(listed: Listed) -> List[Any]:
 
 
 @overload
-def geometries(  # type: ignore[misc]
-    blobs: Buffer, limits: Optional[Limits] = None
-) -> List[Mapping]: ...
+def geometries(blobs: Buffer, *, limits: Optional[Limits] = None) -> List[Mapping]:  # type: ignore[misc]
+    ...
 
 
 @overload
-def geometries(blobs: Blobs, limits: Optional[Limits] = None, errors: Literal["raise"] = "raise") -> List[Optional[Mapping]]: ...
+def geometries(
+    blobs: Blobs, *, limits: Optional[Limits] = None, errors: Literal["raise"] = "raise"
+) -> List[Optional[Mapping]]:
+    ...
 
 
 @overload
-def geometries(blobs: Blobs, limits: Optional[Limits] = None, *, errors: Literal["collect"]) -> Tuple[List[Optional[Mapping]], List[Exception]]: ...
+def geometries(
+    blobs: Blobs, *, limits: Optional[Limits] = None, errors: Literal["collect"]
+) -> Tuple[List[Optional[Mapping]], List[Exception]]:
+    ...
 
 
-def geometries(blobs: Blobs, limits: Optional[Limits] = None, errors: str = "raise") -> Any:
+def geometries(blobs: Blobs, *, limits: Optional[Limits] = None, errors: str = "raise") -> Any:
     """The geometries of a stream of blobs, or of a list of blobs, as mappings of the geo interface: `type` and
     `coordinates`, in degrees, or `geometries`, and `ids` if the parts have ids. A point without coordinates has an empty
     tuple. `shapes` makes geometries of Shapely in less time.
 
-    An item of a list is one blob, as bytes, or None, which stays None. Raises Refused at the first item that is wrong, as
+    An item of a list is one blob, as bytes, or a gap (None, NaN, `pandas.NA`), which becomes None. Raises Refused at the first item that is wrong, as
     ``blob 3: byte 12: truncated``: its `done` is the item, its `place` the byte, and its `output` has the geometries before.
     With ``errors="collect"`` refused items become None, and the call returns a pair: this list, and the list of what
     would have been raised, in order. Of a stream, Refused has the geometries before in `output`. What is no bytes raises
     TypeError.
     """
-    collect = checked_errors(errors)
+    collect = is_chosen("errors", errors, "collect")
 
     def result(listed: Listed) -> Any:
         return (mappings_of(listed), listed.refused()) if collect else mappings_of(listed)

@@ -40,6 +40,11 @@ def address_of(memory: Any) -> int:
     return ctypes.addressof(ctypes.c_char.from_buffer(memory))
 
 
+def address_of_bytes(memory: bytes) -> int:
+    """The same of bytes, which are not written."""
+    return ctypes.cast(ctypes.c_char_p(memory), ctypes.c_void_p).value or 0
+
+
 def copied(view: memoryview) -> memoryview:
     """The bytes of a contiguous buffer in memory that no one else writes to."""
     if view.format != "B" or not view.nbytes:

@@ -1,22 +1,20 @@
 """Where the blobs of a stream are."""
 from __future__ import annotations
 
-import re
 from array import array
-from typing import Any, List, Optional, Tuple
+from typing import List, Optional
 
-from ._library import CLimits, filled, library, some_bytes
+from ._library import CLimits
+from ._reading import offsets_read
 
 # Bits of the metadata byte.
 _SIZE, _EXTENDED = 2, 8
-# The line of `show` of a blob: level 0, where it begins, four words, its length.
-_BLOB = re.compile(rb"^0 (\d+) \S+ \S+ \S+ (\d+) ", re.MULTILINE)
 
 
-def _by_sizes(blobs: bytes, count: Optional[int]) -> Optional[array[int]]:
-    """The offsets by the sizes in blobs that the library has read or written; None if one has no size."""
+def _by_sizes(blobs: bytes) -> Optional[array[int]]:
+    """The offsets by the sizes in blobs; None if one has no size. Raises IndexError if bytes of a size are missing."""
     offsets, place, end = [0], 0, len(blobs)
-    while place < end and len(offsets) - 1 != count:
+    while place < end:
         metadata = blobs[place + 1]
         if not metadata & _SIZE:
             return None
@@ -48,29 +46,24 @@ def size_of(blobs: bytearray) -> int:
     return 0
 
 
-def shown(blobs: bytes, limits: CLimits) -> Tuple[Any, memoryview]:
-    """The report of `show`, and its lines."""
-    report, output = filled(library.polytwkb_show, blobs, len(blobs), 2 * len(blobs) + 64, some_bytes, limits)
-    return report, memoryview(output)[: report.sent]
-
-
-def ends_of(lines: memoryview) -> List[int]:
-    """Where the blobs end that are in lines of `show`."""
-    return [int(offset) + int(length) for offset, length in _BLOB.findall(lines)]
-
-
-def offsets_of(blobs: bytes, limits: CLimits, count: Optional[int] = None) -> array[int]:
-    """Where each blob of a stream begins, and where the last one ends: of all blobs, which the library has read or
-    written, or of so many."""
-    found = _by_sizes(blobs, count)
-    return array("q", [0] + ends_of(shown(blobs, limits)[1])[:count]) if found is None else found
+def _checked(blobs: bytes) -> array[int]:
+    """The offsets of a stream. Raises ValueError if the last one is not its end."""
+    try:
+        offsets = _by_sizes(blobs)
+    except IndexError:
+        offsets = array("q")
+    if offsets is None:
+        offsets = offsets_read(blobs, CLimits(32, 1 << 20, 1 << 24))[1]
+    if not offsets or offsets[-1] != len(blobs):
+        raise ValueError("the bytes are no stream of whole blobs: the last one does not end with them")
+    return offsets
 
 
 class Packed(bytes):
-    """A stream of blobs, as bytes, with the places of the blobs in it: what `pack_geometries` and `pack_ragged` return, or
-    made of what `write` or `pack` returned: ``Packed(write(rows, points)).blobs``. The places are found by the sizes in
-    the blobs, whose points are not read again. In the style ``"plain"`` blobs have no sizes, and the stream is read once
-    more, when the places are asked for."""
+    """A stream of blobs, as bytes, with the places of the blobs in it: what `pack_geometries` and `pack_ragged` return. One
+    may be made of what `write` or `pack` returned: ``Packed(write(rows, points)).blobs``. Its places are found when they
+    are asked for: by the sizes in the blobs, whose points are not read again. In the style ``"plain"`` blobs have no sizes,
+    and the stream is read once more. Asking raises ValueError if the last blob does not end with the bytes."""
 
     _offsets: Optional[array[int]] = None
 
@@ -79,7 +72,7 @@ class Packed(bytes):
         """Where the blob of each geometry begins, and where the last one ends: 64-bit integers, one more than there are
         geometries. No bytes are those of a geometry that is None."""
         if self._offsets is None:
-            self._offsets = offsets_of(self, CLimits(32, 1 << 20, 1 << 24))
+            self._offsets = _checked(self)
         return self._offsets
 
     @property
@@ -88,13 +81,21 @@ class Packed(bytes):
         offsets = self.offsets
         return [self[start:end] if start < end else None for start, end in zip(offsets, offsets[1:])]
 
-    def without(self, missing: List[int]) -> Packed:
-        """The same stream, after which geometries are known that are None: places among all geometries."""
-        if missing:
-            offsets, own = array("q", (0,)), self.offsets
-            places, done = set(missing), 0
-            for place in range(len(own) - 1 + len(places)):
-                done += place not in places
-                offsets.append(own[done])
-            self._offsets = offsets
-        return self
+
+def packed_with(blobs: memoryview, offsets: array[int]) -> Packed:
+    """A stream whose places are known."""
+    packed = Packed(blobs)
+    packed._offsets = offsets
+    return packed
+
+
+def packed_of(packed: Packed, missing: List[int]) -> Packed:
+    """A stream of geometries some of which are None: those at these places."""
+    if missing:
+        offsets, own = array("q", (0,)), packed.offsets
+        places, done = set(missing), 0
+        for place in range(len(own) - 1 + len(places)):
+            done += place not in places
+            offsets.append(own[done])
+        packed._offsets = offsets
+    return packed

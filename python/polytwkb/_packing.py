@@ -6,7 +6,8 @@ from bisect import bisect
 from collections.abc import Mapping
 from typing import Any, Iterable, List, Optional, Tuple, Union
 
-from ._conversions import Limits
+from ._conversions import Limits, is_chosen
+from ._gaps import gapped
 from ._geometries import NAMES, PARTS
 from ._offsets import Packed
 from ._points import clipped, listed, placed, unit
@@ -29,9 +30,9 @@ class _DeepEnough(Exception):
 def _interface_of(given: Any) -> Any:
     """The mapping of an object, if it has one. Shapely before 2 has none of an empty point, nor of what has one in it."""
     kind = getattr(given, "geom_type", None)
-    if kind == "Point" and given.is_empty:
+    if kind == "Point" and getattr(given, "is_empty", False):
         return {"type": kind, "coordinates": ()}
-    if kind == "GeometryCollection":
+    if kind == "GeometryCollection" and hasattr(given, "geoms"):
         return {"type": kind, "geometries": given.geoms}
     return getattr(given, "__geo_interface__", given)
 
@@ -60,16 +61,16 @@ def _top_of(given: Any) -> Optional[Mapping[str, Any]]:
 
 
 def _geometries_of(given: Any) -> List[Any]:
-    """The geometries of a column of GeoPandas, of a mapping, of an object with a geo interface, or of a list."""
-    column: Any = None if isinstance(given, Mapping) else getattr(given, "geometry", None)
+    """The geometries of a frame, a column or an array of GeoPandas, of a mapping, of an object with a geo interface, or of a list."""
+    column: Any = None if isinstance(given, Mapping) else getattr(given, "geometry", given)
     if hasattr(column, "to_numpy"):
-        return list(column.to_numpy())
+        return gapped(list(column.to_numpy()))
     if hasattr(given, "geom_type"):
         return [given]
     if isinstance(given, Mapping) or hasattr(given, "__geo_interface__"):
         given = _mapping_of(given)
         return list(_field(given, "features")) if given.get("type") == "FeatureCollection" else [given]
-    return list(_items(given, "geometries"))
+    return gapped(list(_items(given, "geometries")))
 
 
 def _items(found: Any, what: str) -> Any:
@@ -199,25 +200,21 @@ class _Gathered:
             raise placed(fault, f"geometry {item_of(bisect(self.starts, place) - 1, self.missing)}") from None
 
 
-def _drops(heights: str) -> bool:
-    """Whether heights are dropped."""
-    if not isinstance(heights, str):
-        raise TypeError(f"heights is a str, not {type(heights).__name__}")
-    if heights not in ("raise", "drop"):
-        raise ValueError(f"heights is 'raise' or 'drop', not {heights!r}")
-    return heights == "drop"
-
-
 def pack_geometries(
-    geometries: Union[Any, Iterable[Any]], precision: int, style: str = "full", ids: bool = True, limits: Optional[Limits] = None,
+    geometries: Union[Any, Iterable[Any]],
+    precision: int,
+    *,
+    style: str = "full",
+    ids: bool = True,
+    limits: Optional[Limits] = None,
     heights: str = "raise",
 ) -> Packed:
     """Packs geometries to a stream of blobs, with so many decimals, -8 to 7: the counterpart of `geometries` and `shapes`.
     The stream is bytes; ``blobs`` of it is the list of single blobs (`Packed`).
 
-    Geometries are a list of mappings of the geo interface, or of objects with one, as those of Shapely; a column or a frame
-    of GeoPandas; or one geometry. In a list None, and a feature whose geometry is None, has no blob: ``blobs`` has None at
-    its place. Coordinates are degrees, and are rounded as `encode` rounds them. ``ids`` of a mapping are those of its parts;
+    Geometries are a list of mappings of the geo interface, or of objects with one, as those of Shapely; a column, its array
+    (``.values``) or a frame of GeoPandas; or one geometry. In a list None, NaN, `pandas.NA` and a feature whose geometry is
+    None have no blob: ``blobs`` has None at their place. Coordinates are degrees, and are rounded as `encode` rounds them. ``ids`` of a mapping are those of its parts;
     with ``ids=False`` they are left out. A LinearRing is packed as a linestring. A reference system is not kept.
 
     Points have no height: a third number raises TypeError, and with ``heights="drop"`` it is left out.
@@ -226,7 +223,7 @@ def pack_geometries(
     blobs before. Raises ValueError for a coordinate that is not finite and for an unknown type, TypeError for what is no
     geometry; each names the geometry.
     """
-    decimals, drop, items = power(precision), _drops(heights), _geometries_of(geometries)
+    decimals, drop, items = power(precision), is_chosen("heights", heights, "drop"), _geometries_of(geometries)
     if are_shapes(items):
         return pack_shapes(items, decimals, style, limits, drop)
     gathered = _Gathered(decimals, ids, drop)

@@ -1,18 +1,21 @@
 """Points as they are given, as pairs or in a buffer, to whole numbers in a buffer; units to degrees and back."""
 from __future__ import annotations
 
+import math
 import operator
 from array import array
 from decimal import Decimal
 from itertools import islice
 from typing import Any, Iterable, Iterator, List, Optional, Tuple, Type, Union
 
-from ._columns import Points, in_columns
+from ._columns import POINT, Points, in_columns, points_on
 from ._conversions import Buffer
 from ._degrees import degrees_of
-from ._reasons import Reason
+from ._library import library
+from ._memory import address_of, memory_of
+from ._reasons import Reason, Status
 from ._refused import Refused
-from ._rounding import nearest, power, rounded
+from ._rounding import NotFinite, nearest, power, rounded
 
 LEAST, MOST = -(1 << 62), (1 << 62) - 1
 # Numbers that are converted at once.
@@ -35,8 +38,11 @@ def view_of(given: Any) -> Optional[memoryview]:
     except (TypeError, ValueError):
         return None
     if hasattr(given, "mask"):
-        raise TypeError("an array is masked, and what is under a mask is no number: its method filled or compressed makes one without")
-    return view
+        raise TypeError(
+            "an array is masked, and what is under a mask is no number: its method filled or compressed makes one without"
+        )
+    # The buffer of an array of objects has their addresses.
+    return None if "O" in view.format else view
 
 
 def is_of(view: memoryview, formats: Iterable[str], size: int) -> bool:
@@ -50,7 +56,12 @@ def is_of_floats(view: memoryview) -> bool:
 
 def _checked(view: memoryview) -> memoryview:
     """The view of a buffer that has x and y of each point, flat or in two columns."""
-    if view.nbytes % (2 * view.itemsize) != 0 or view.ndim not in (1, 2) or view.ndim == 2 and (view.shape or (0, 0))[1] != 2:
+    if (
+        view.nbytes % (2 * view.itemsize) != 0
+        or view.ndim not in (1, 2)
+        or view.ndim == 2
+        and (view.shape or (0, 0))[1] != 2
+    ):
         raise TypeError("a buffer of points has x and y of each: one dimension, or two columns")
     return view
 
@@ -83,12 +94,21 @@ def floats_view(points: Any) -> Optional[memoryview]:
     return flat_of(_checked(view)) if view is not None and is_of_floats(view) else None
 
 
+def own_floats(floats: memoryview) -> bytes:
+    """The floats of a view in one dimension, of 64 bits, in memory that no one writes to."""
+    return floats.tobytes() if floats.format == "d" else array("d", floats).tobytes()
+
+
 def unit(number: Any, precision: Optional[int]) -> int:
     """The units of a coordinate."""
     try:
         return operator.index(number) if precision is None else nearest(number, precision)
     except TypeError:
-        known = "is no whole number: give a precision" if isinstance(number, (float, Decimal)) else f"is a number, not {type(number).__name__}"
+        known = (
+            "is no whole number: give a precision"
+            if isinstance(number, (float, Decimal))
+            else f"is a number, not {type(number).__name__}"
+        )
         raise TypeError(f"a coordinate {known}") from None
 
 
@@ -116,17 +136,21 @@ def _one_by_one(numbers: List[Any], precision: Optional[int], first: int) -> arr
     return units
 
 
-def units_of_piece(numbers: Any, precision: Optional[int], first: int) -> array[int]:
-    """The same, as many at once as can be."""
-    units: Optional[array[int]]
+def _at_once(numbers: Any, precision: Optional[int]) -> Optional[array[int]]:
+    """The units of coordinates; None if they have to be made one by one. Those that are rounded are in range."""
     if precision is not None:
-        units = rounded(numbers, precision)
-    else:
-        try:
-            units = array("q", map(operator.index, numbers))
-        except (TypeError, OverflowError):
-            units = None
-    return _one_by_one(list(numbers), precision, first) if units is None else units
+        return rounded(numbers, precision)
+    try:
+        return array("q", map(operator.index, numbers))
+    except (TypeError, OverflowError):
+        return None
+
+
+def _check_range(units: Iterable[int], first: int) -> None:
+    """Raises Refused at the first unit that is out of range."""
+    for place, number in enumerate(units):
+        if not LEAST <= number <= MOST:
+            raise outside(first + place // 2)
 
 
 def pieces_of_pairs(points: Iterable[Any]) -> Iterator[List[Any]]:
@@ -168,18 +192,35 @@ def listed(view: memoryview) -> List[Any]:
         raise TypeError(f"points are pairs of numbers, not items of format {view.format!r}") from None
 
 
-def units_of(points: Any, precision: Optional[int]) -> Tuple[array[int], bool]:
+def units_of(points: Any, precision: Optional[int], in_range: bool = False) -> Tuple[array[int], bool]:
     """The coordinates of points as units, flat, up to the first point that has one of more than 64 bits, and whether there is such a point.
-    Without a precision coordinates are whole numbers."""
+    Without a precision coordinates are whole numbers. Raises Refused for one that has a precision and is out of range, if that is asked.
+    """
     if isinstance(points, (str, bytes)):
         raise TypeError(f"points are pairs of numbers, not {type(points).__name__}")
     units = array("q")
     for numbers in _pieces(points, precision):
-        some = units_of_piece(numbers, precision, len(units) // 2)
+        some, first = _at_once(numbers, precision), len(units) // 2
+        if some is None:
+            some = _one_by_one(list(numbers), precision, first)
+            _check_range(some if in_range else (), first)
         units.frombytes(memoryview(some).cast("B"))
         if len(some) < len(numbers):
             return units, True
     return units, False
+
+
+def _of_floats(floats: memoryview, precision: int) -> Points:
+    """The units of floats, all at once."""
+    own, count = own_floats(floats), len(floats)
+    memory = memory_of(max(8 * count, POINT))
+    report = library.polytwkb_round(own, count, precision, address_of(memory), count)
+    if report.status == Status.REFUSED:
+        number = memoryview(own).cast("d")[report.place]
+        if math.isfinite(number):
+            raise outside(report.place // 2)
+        raise placed(NotFinite(report.place, number), f"point {report.place // 2}")
+    return points_on(memoryview(memory)[: max(8 * count, POINT)].cast("q"), count // 2)
 
 
 def in_units(points: PointsLike, precision: int) -> Points:
@@ -190,9 +231,10 @@ def in_units(points: PointsLike, precision: int) -> Points:
     Raises Refused, with the point from 0 as its place, if a coordinate is outside -2^62 to 2^62 - 1; ValueError if one
     is not finite, or for a precision outside -8 to 7; TypeError for other types, other shapes and masked arrays.
     """
-    units, more = units_of(points, power(precision))
-    if units and not (LEAST <= min(units) and max(units) <= MOST):
-        raise outside(next(place for place, number in enumerate(units) if not LEAST <= number <= MOST) // 2)
+    precision, floats = power(precision), floats_view(points)
+    if floats is not None:
+        return _of_floats(floats, precision)
+    units, more = units_of(points, precision, in_range=True)
     if more:
         raise outside(len(units) // 2)
     return in_columns(units)

@@ -17,7 +17,7 @@ from ._rounding import power
 _GO_ON = bytes(range(95, 127))
 
 
-def encode(points: PointsLike, precision: Optional[int] = None) -> str:
+def encode(points: PointsLike, *, precision: Optional[int] = None) -> str:
     """The encoded polyline of points (x, y): x is the longitude and y the latitude, though the text has the latitude first.
 
     Without a precision, coordinates are whole numbers and pass unchanged: pairs, or a buffer of signed 64-bit integers x, y, x, y, ..
@@ -64,7 +64,9 @@ _Result = TypeVar("_Result")
 
 def _decoded(text: Union[str, Buffer], result: Callable[[array[int]], _Result]) -> _Result:
     """What `result` makes of the coordinates of a text, x before y."""
-    given = text.encode("utf-8", "surrogatepass") if isinstance(text, str) else _bytes(text, "a polyline is a str or bytes")
+    given = (
+        text.encode("utf-8", "surrogatepass") if isinstance(text, str) else _bytes(text, "a polyline is a str or bytes")
+    )
     numbers = len(given.translate(None, _GO_ON))
     report, flat = filled(library.polytwkb_decode, given, len(given), numbers // 2, _some_points)
     del flat[2 * report.sent :]
@@ -83,7 +85,7 @@ def decode_flat(text: Union[str, Buffer]) -> array[int]:
     return _decoded(text, lambda flat: flat)
 
 
-def decode(text: Union[str, Buffer], precision: Optional[int] = None) -> List[Tuple[Any, Any]]:
+def decode(text: Union[str, Buffer], *, precision: Optional[int] = None) -> List[Tuple[Any, Any]]:
     """The points (x, y) of an encoded polyline: x is the longitude and y the latitude, though the text has the latitude first.
 
     Without a precision they are whole numbers; with one, from -8 to 7, floats in degrees: each the one nearest to its whole number times

@@ -2,10 +2,10 @@
 from __future__ import annotations
 
 from enum import IntEnum
-from typing import Any, List, NamedTuple, Optional, Tuple
+from typing import Any, List, NamedTuple, Optional, Sequence, Tuple
 
-from ._conversions import Limits
-from ._lists import Blobs, Listed, checked_errors, read_blobs
+from ._conversions import Limits, is_chosen
+from ._lists import Blobs, Listed, read_blobs
 from ._offsets import Packed
 from ._rounding import power
 from ._rows import NO_PRECISION, Kind, Rows
@@ -27,8 +27,11 @@ _TYPES = {getattr(Kind, kind.name): kind for kind in GeometryType}
 _KINDS = {kind: number for number, kind in _TYPES.items()}
 # The kinds of the rows of a geometry, the outermost first; the last one has points.
 _LEVELS = {
-    Kind.POINT: [Kind.POINT], Kind.LINESTRING: [Kind.LINESTRING], Kind.POLYGON: [Kind.POLYGON, Kind.RING],
-    Kind.MULTIPOINT: [Kind.MULTIPOINT, Kind.POINT], Kind.MULTILINESTRING: [Kind.MULTILINESTRING, Kind.LINESTRING],
+    Kind.POINT: [Kind.POINT],
+    Kind.LINESTRING: [Kind.LINESTRING],
+    Kind.POLYGON: [Kind.POLYGON, Kind.RING],
+    Kind.MULTIPOINT: [Kind.MULTIPOINT, Kind.POINT],
+    Kind.MULTILINESTRING: [Kind.MULTILINESTRING, Kind.LINESTRING],
     Kind.MULTIPOLYGON: [Kind.MULTIPOLYGON, Kind.POLYGON, Kind.RING],
 }
 
@@ -55,7 +58,7 @@ class Ragged(_Three):
     """
 
     missing: Any = ()
-    refused: List[Exception] = []
+    refused: Sequence[Exception] = ()
 
 
 def _numpy() -> Any:
@@ -85,7 +88,9 @@ def _kind_of(table: Any, tops: Any, places: Any) -> Kind:
         place = int(others[0]) if len(others) else 0
         named = Kind(int(kinds[place])).name.lower()
         place = place if places is None else places[place]
-        raise ValueError(f"geometry {place}: a column has one kind, and no collections: this is a {named}, the first a {kind.name.lower()}")
+        raise ValueError(
+            f"geometry {place}: a column has one kind, and no collections: this is a {named}, the first a {kind.name.lower()}"
+        )
     return kind
 
 
@@ -128,7 +133,7 @@ def ragged_of(listed: Listed) -> Ragged:
     return found
 
 
-def ragged(blobs: Blobs, limits: Optional[Limits] = None, errors: str = "raise") -> Ragged:
+def ragged(blobs: Blobs, *, limits: Optional[Limits] = None, errors: str = "raise") -> Ragged:
     """The geometries of a stream of blobs, or of a list of blobs, as a column of coordinates and offsets: `Ragged`, in
     degrees, which `shapely.from_ragged_array(*ragged)` of Shapely 2 takes, and whose arrays are those of GeoArrow. It
     needs numpy. All geometries are of one kind, and none is a collection; precisions may differ.
@@ -137,7 +142,7 @@ def ragged(blobs: Blobs, limits: Optional[Limits] = None, errors: str = "raise")
     with ``errors="collect"`` such items become None, and ``refused`` of the result has what would have been raised.
     Raises ValueError if no geometry is there, or if kinds differ.
     """
-    return read_blobs(blobs, limits, checked_errors(errors), ragged_of)
+    return read_blobs(blobs, limits, is_chosen("errors", errors, "collect"), ragged_of)
 
 
 def _checked(offsets: Any, name: str) -> Any:
@@ -206,14 +211,18 @@ def _column_of(column: Any) -> Tuple[Kind, Any, Any]:
         geometry_type, coordinates, offsets = column
         kind = _KINDS[GeometryType(int(geometry_type))]
     except (TypeError, ValueError):
-        raise ValueError("a column is a number of shapely.GeometryType, other than 2 and 7, coordinates and offsets") from None
+        raise ValueError(
+            "a column is a number of shapely.GeometryType, other than 2 and 7, coordinates and offsets"
+        ) from None
     coordinates = numpy.asarray(coordinates)
     if coordinates.ndim != 2 or coordinates.shape[1] != 2 or coordinates.dtype.kind != "f":
-        raise TypeError(f"coordinates are floats of the shape (n, 2), not {coordinates.dtype} of the shape {coordinates.shape}")
+        raise TypeError(
+            f"coordinates are floats of the shape (n, 2), not {coordinates.dtype} of the shape {coordinates.shape}"
+        )
     return kind, coordinates, () if offsets is None else offsets
 
 
-def pack_ragged(column: Any, precision: int, style: str = "full", limits: Optional[Limits] = None) -> Packed:
+def pack_ragged(column: Any, precision: int, *, style: str = "full", limits: Optional[Limits] = None) -> Packed:
     """Packs a column of coordinates and offsets to a stream of blobs, with so many decimals, -8 to 7: the counterpart of
     `ragged`. It needs numpy.
 

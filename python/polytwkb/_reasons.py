@@ -50,6 +50,12 @@ class Reason:
     TOO_MANY_RECORDS = 62
     POINTS_MISSING = 71
     POINTS_LEFT = 72
+    NO_SUCH_COLUMN = 81
+    COLUMN_TWICE = 82
+    WRONG_FIELD_COUNT = 83
+    MISSING_VALUE = 84
+    NO_LINESTRING = 91
+    ANOTHER_PRECISION = 92
 
 
 class First:
@@ -60,3 +66,5 @@ class First:
     BLOB = 41
     WHOLE = 61
     ARRAY = 71
+    CSV = 81
+    LINE = 91

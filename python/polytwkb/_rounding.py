@@ -51,7 +51,11 @@ def nearest(number: Any, precision: int) -> int:
     size, below = abs(above) * factor, below * divisor
     units: int = (2 * size + below) // (2 * below)
     # The quotient of two ints is the float nearest to it. It is compared by its ratio, as a float of numpy may have fewer bits.
-    if is_float and size < 10**14 * below and ((2 * units + 1) * divisor / (2 * factor)).as_integer_ratio() == (abs(ratio[0]), ratio[1]):
+    if (
+        is_float
+        and size < 10**14 * below
+        and ((2 * units + 1) * divisor / (2 * factor)).as_integer_ratio() == (abs(ratio[0]), ratio[1])
+    ):
         units += 1
     return units if above >= 0 else -units
 
@@ -90,12 +94,13 @@ class NotFinite(ValueError):
         self.place = place
 
 
-def round_floats(numbers: memoryview, precision: int, units: memoryview) -> None:
-    """Puts the units of floats. In place of one that has no unit it puts a number that is out of range."""
+def round_floats(numbers: memoryview, address: int, precision: int, units: memoryview) -> None:
+    """Puts the units of floats, which begin at this address. In place of one that has no unit it puts a number that is out
+    of range."""
     done, count = 0, len(numbers)
     while done < count:
-        given, put = (address_of(view) + 8 * done for view in (numbers, units))
-        report = library.polytwkb_round(given, count - done, precision, put, count - done)
+        put = address_of(units) + 8 * done
+        report = library.polytwkb_round(address + 8 * done, count - done, precision, put, count - done)
         done += report.sent
         if report.status == Status.REFUSED:
             if not math.isfinite(numbers[done]):

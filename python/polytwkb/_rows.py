@@ -2,7 +2,7 @@
 from __future__ import annotations
 
 from enum import IntEnum
-from typing import Any, Dict, Iterator, NamedTuple, Optional, Tuple
+from typing import Any, Dict, Iterator, NamedTuple, Optional, Tuple, Union, overload
 
 ROW = 24
 
@@ -46,7 +46,7 @@ class Rows:
     * ``id`` (int64), ``has_id`` (bool): the id of a part, or 0 and False.
 
     `numpy.asarray(rows)` has all columns in one array of type `Rows.dtype`, on the same memory, and takes a column too.
-    Without numpy ``for row in rows`` gives tuples with these names. `pandas.DataFrame(rows)` is a frame of them, and
+    Without numpy ``for row in rows`` and ``rows[0]`` give tuples with these names, and ``rows[1:3]`` rows. `pandas.DataFrame(rows)` is a frame of them, and
     `pandas.DataFrame(numpy.asarray(rows))` the same in less time. Rows can be pickled.
     """
 
@@ -60,11 +60,15 @@ class Rows:
     dtype = [("id", "<i8"), ("counts", "<u8"), ("depth", "<u4"), ("kind", "<u2"), ("has_id", "?"), ("precision", "i1")]
     # The code of each column's items, and how many of them are before it in a row and in a whole row.
     places: Dict[str, Tuple[str, int, int]] = {
-        "id": ("q", 0, 3), "counts": ("Q", 1, 3), "depth": ("I", 4, 6), "kind": ("H", 10, 12), "has_id": ("?", 22, 24),
+        "id": ("q", 0, 3),
+        "counts": ("Q", 1, 3),
+        "depth": ("I", 4, 6),
+        "kind": ("H", 10, 12),
+        "has_id": ("?", 22, 24),
         "precision": ("b", 23, 24),
     }
 
-    def __init__(self, records: Any, count: Optional[int] = None) -> None:
+    def __init__(self, records: Any, *, count: Optional[int] = None) -> None:
         """Rows of their bytes, as `records` has them: of so many rows, or of all."""
         memory = memoryview(records).cast("B")
         count = len(memory) // ROW if count is None and len(memory) % ROW == 0 else count
@@ -93,6 +97,22 @@ class Rows:
 
     def __iter__(self) -> Iterator[Row]:
         return map(Row._make, zip(*(getattr(self, name) for name in Row._fields)))
+
+    @overload
+    def __getitem__(self, key: int) -> Row:
+        ...
+
+    @overload
+    def __getitem__(self, key: slice) -> Rows:
+        ...
+
+    def __getitem__(self, key: Union[int, slice]) -> Any:
+        if not isinstance(key, slice):
+            return Row._make(getattr(self, name)[key] for name in Row._fields)
+        chosen = range(self._count)[key]
+        if chosen.step == 1:
+            return Rows(self.records[ROW * chosen.start : ROW * max(chosen.start, chosen.stop)])
+        return Rows(b"".join(self.records[ROW * place : ROW * (place + 1)] for place in chosen))
 
     def __eq__(self, other: object) -> bool:
         return isinstance(other, Rows) and self.records == other.records

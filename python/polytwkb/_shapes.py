@@ -7,8 +7,8 @@ from itertools import compress
 from operator import itemgetter
 from typing import Any, List, Literal, Optional, Tuple, overload
 
-from ._conversions import Limits
-from ._lists import Blobs, Listed, checked_errors, in_places, read_blobs
+from ._conversions import Limits, is_chosen
+from ._lists import Blobs, Listed, in_places, read_blobs
 from ._offsets import Packed
 from ._wkb import rows_of_wkb, wkb_of
 from ._write_geometries import item_of, write_floats
@@ -62,21 +62,25 @@ def _shapes_of(listed: Listed, collect: bool) -> List[Any]:
 
 
 @overload
-def shapes(blobs: Blobs, limits: Optional[Limits] = None, errors: Literal["raise"] = "raise") -> List[Any]: ...
+def shapes(blobs: Blobs, *, limits: Optional[Limits] = None, errors: Literal["raise"] = "raise") -> List[Any]:
+    ...
 
 
 @overload
-def shapes(blobs: Blobs, limits: Optional[Limits] = None, *, errors: Literal["collect"]) -> Tuple[List[Any], List[Exception]]: ...
+def shapes(
+    blobs: Blobs, *, limits: Optional[Limits] = None, errors: Literal["collect"]
+) -> Tuple[List[Any], List[Exception]]:
+    ...
 
 
-def shapes(blobs: Blobs, limits: Optional[Limits] = None, errors: str = "raise") -> Any:
+def shapes(blobs: Blobs, *, limits: Optional[Limits] = None, errors: str = "raise") -> Any:
     """The geometries of a stream of blobs, or of a list of blobs, as geometries of Shapely, in degrees. Ids of parts are
     left out. It needs Shapely, 1.8 or later, and numpy.
 
     Lists, None and `errors` are as in `geometries`. A geometry that Shapely does not take, such as a linestring of one
     point, raises ValueError, which names it, or is kept apart with the others.
     """
-    collect = checked_errors(errors)
+    collect = is_chosen("errors", errors, "collect")
 
     def result(listed: Listed) -> Any:
         made = _shapes_of(listed, collect)
@@ -92,9 +96,7 @@ def are_shapes(items: List[Any]) -> bool:
     return base is not None and bool(kinds) and all(issubclass(kind, base.BaseGeometry) for kind in kinds)
 
 
-def pack_shapes(
-    items: List[Any], precision: int, style: str, limits: Optional[Limits], drop: bool
-) -> Packed:
+def pack_shapes(items: List[Any], precision: int, style: str, limits: Optional[Limits], drop: bool) -> Packed:
     """The stream of such a list."""
     missing = [place for place, item in enumerate(items) if item is None]
     given = [item for item in items if item is not None] if missing else items

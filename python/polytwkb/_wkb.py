@@ -1,11 +1,16 @@
 """Geometries as WKB, in which all versions of Shapely take and give them, from rows and points and to them."""
 from __future__ import annotations
 
+import math
+from struct import Struct
 from typing import Any, List, Tuple
 
 from ._arrays import Arrays
 from ._rows import NO_PRECISION, Kind, Rows
 from ._walk import HEADS, items, walked
+
+_COUNT, _HEAD = Struct("<I").pack, Struct("<BII").pack
+_POINT_HEAD, _NO_POINT = Struct("<BI").pack(1, 1), Struct("<dd").pack(math.nan, math.nan)
 
 
 def _parts_of(table: Any) -> Any:
@@ -31,8 +36,30 @@ def _places_of(begins: Any, counts: Any) -> Any:
     return numpy.cumsum(places, out=places)
 
 
+def plain_wkb_of(arrays: Arrays) -> List[bytes]:
+    """The same without numpy."""
+    rows, points = arrays.rows, memoryview(arrays.points.tobytes())
+    depths, counts, place = rows.depth.tolist(), rows.counts.tolist(), 0
+    parts, above = [0] * len(depths), [0] * (max(depths, default=0) + 1)
+    for row, depth in enumerate(depths):
+        above[depth] = row
+        if depth:
+            parts[above[depth - 1]] += 1
+    wkbs: List[List[bytes]] = []
+    for kind, depth, count, below in zip(rows.kind.tolist(), depths, counts, parts):
+        if not depth:
+            wkbs.append([])
+        if kind == Kind.POINT:
+            wkbs[-1] += _POINT_HEAD, points[place : place + 16 * count] if count else _NO_POINT
+        else:
+            head = _COUNT(count) if kind == Kind.RING else _HEAD(1, kind, count or below)
+            wkbs[-1] += head, points[place : place + 16 * count]
+        place += 16 * count
+    return list(map(b"".join, wkbs))
+
+
 def wkb_of(arrays: Arrays) -> List[bytes]:
-    """Geometries as WKB, each as bytes of its own."""
+    """Geometries as little-endian WKB, each as bytes of its own. An empty point has the coordinates NaN."""
     import numpy
 
     table, points = numpy.asarray(arrays.rows), numpy.asarray(arrays.points)

@@ -1,12 +1,13 @@
 """`read`: streams as rows and points in arrays."""
 import contextlib
 import csv
+import pickle
 import unittest
 from unittest import mock
 
 import polytwkb
 import vectors
-from polytwkb import NO_PRECISION, Kind, Rows, _arrays
+from polytwkb import NO_PRECISION, Kind, Rows, _reading
 
 try:
     import numpy
@@ -17,7 +18,14 @@ NAMES = {**{kind.name.lower(): kind for kind in Kind}}
 COLUMNS = ("kind", "counts", "depth", "precision", "id", "has_id")
 # A polygon of two rings of three points, and a multipoint with ids.
 TABLE = vectors.table_of("0,polygon,,2,/1,ring,,,???GE?/1,ring,,,AA?AA?/0,multipoint,,0,/1,point,7,,CA/1,point,8,,GE/")
-ROWS = [(3, 0, 0, 2, 0, False), (8, 3, 1, -128, 0, False), (8, 3, 1, -128, 0, False), (4, 0, 0, 0, 0, False), (1, 1, 1, -128, 7, True), (1, 1, 1, -128, 8, True)]
+ROWS = [
+    (3, 0, 0, 2, 0, False),
+    (8, 3, 1, -128, 0, False),
+    (8, 3, 1, -128, 0, False),
+    (4, 0, 0, 0, 0, False),
+    (1, 1, 1, -128, 7, True),
+    (1, 1, 1, -128, 8, True),
+]
 POINTS = [[0, 0], [4, 0], [4, 3], [1, 1], [2, 1], [2, 2], [1, 2], [3, 4]]
 DEGREES = [[0.0, 0.0], [0.04, 0.0], [0.04, 0.03], [0.01, 0.01], [0.02, 0.01], [0.02, 0.02], [1.0, 2.0], [3.0, 4.0]]
 
@@ -32,7 +40,14 @@ def arrays_of(table):
     rows = list(csv.DictReader(table.splitlines()))
     points = [polytwkb.decode(row["polyline"]) for row in rows]
     return [
-        (NAMES[row["kind"]], len(own), int(row["depth"]), int(row["precision"] or NO_PRECISION), int(row["id"] or 0), row["id"] != "")
+        (
+            NAMES[row["kind"]],
+            len(own),
+            int(row["depth"]),
+            int(row["precision"] or NO_PRECISION),
+            int(row["id"] or 0),
+            row["id"] != "",
+        )
         for row, own in zip(rows, points)
     ], [list(point) for own in points for point in own]
 
@@ -57,7 +72,9 @@ class Reading(unittest.TestCase):
         rows, points = polytwkb.read(polytwkb.pack(TABLE), degrees=False)
         self.assertEqual((rows_of(rows), points.tolist()), (ROWS, POINTS))
         self.assertEqual((len(rows), rows.records.nbytes, points.format, points.shape), (6, 144, "q", (8, 2)))
-        self.assertEqual([tuple(row) for row in rows], [tuple(getattr(row, name) for name in rows.places) for row in rows])
+        self.assertEqual(
+            [tuple(row) for row in rows], [tuple(getattr(row, name) for name in rows.places) for row in rows]
+        )
         self.assertEqual([(row.kind, row.counts, row.id) for row in rows], [(row[0], row[1], row[4]) for row in ROWS])
 
     def test_the_blobs_of_postgis(self):
@@ -84,30 +101,59 @@ class Reading(unittest.TestCase):
     def test_a_refusal_has_the_arrays_before_it(self):
         blob = polytwkb.pack(TABLE)
         for given, place, done in [
-            (blob + b"\x08", len(blob), 2), (blob[:-1], len(blob) - 1, 1), (blob * 3000 + b"\x01", 3000 * len(blob) + 1, 6000),
+            (blob + b"\x08", len(blob), 2),
+            (blob[:-1], len(blob) - 1, 1),
+            (blob * 3000 + b"\x01", 3000 * len(blob) + 1, 6000),
         ]:
             with self.subTest(place=place), self.assertRaises(polytwkb.Refused) as caught:
                 polytwkb.read(given, degrees=False)
             refused, parts = caught.exception, [ROWS[:3], ROWS[3:]] * 3000
             self.assertEqual((refused.place, refused.done), (place, done))
             self.assertEqual(rows_of(refused.output.rows), [row for part in parts[:done] for row in part])
-            self.assertEqual(refused.output.points.tolist(), (POINTS * 3000)[: sum(row[1] for part in parts[:done] for row in part)])
+            self.assertEqual(
+                refused.output.points.tolist(), (POINTS * 3000)[: sum(row[1] for part in parts[:done] for row in part)]
+            )
         with self.assertRaises(polytwkb.Refused):
-            polytwkb.read(blob, polytwkb.Limits(points=5))
+            polytwkb.read(blob, limits=polytwkb.Limits(points=5))
 
     def test_what_has_no_room_is_counted_first(self):
-        with memory_refused_once(_arrays) as asked:
+        with memory_refused_once(_reading) as asked:
             rows, points = polytwkb.read(polytwkb.pack(TABLE) * 20, degrees=False)
-        self.assertEqual((rows_of(rows), points.tolist(), asked[-2:]), (ROWS * 20, POINTS * 20, [120 * 24, 160 * 16]))
+        self.assertEqual((rows_of(rows), points.tolist()), (ROWS * 20, POINTS * 20))
+        self.assertEqual(asked[-3:], [120 * 24, 160 * 16, 120 * 8])
 
     def test_rows_of_their_bytes(self):
         rows = polytwkb.read(polytwkb.pack(TABLE)).rows
         self.assertEqual((Rows(rows.records.tobytes()), len(Rows(b"")), rows == 5), (rows, 0, False))
-        for given, raised in [((b"1" * 23,), ValueError), ((b"1" * 24, 2), ValueError), ((b"", -1), ValueError), ((None,), TypeError), (([1],), TypeError)]:
+        for given, raised, *count in [
+            ((b"1" * 23,), ValueError),
+            ((b"1" * 24,), ValueError, 2),
+            ((b"",), ValueError, -1),
+            ((None,), TypeError),
+            (([1],), TypeError),
+        ]:
             with self.subTest(given=given), self.assertRaises(raised):
-                Rows(*given)
+                Rows(*given, **({"count": count[0]} if count else {}))
         with self.assertRaises(AttributeError):
             rows.polyline
+
+    def test_rows_by_place(self):
+        rows = polytwkb.read(polytwkb.pack(TABLE)).rows
+        every = list(rows)
+        for place in (0, 3, -1, -len(every)):
+            self.assertEqual(rows[place], every[place])
+        for chosen in (slice(1, 3), slice(None), slice(4, 2), slice(None, None, 2), slice(None, None, -1)):
+            self.assertEqual((type(rows[chosen]), list(rows[chosen])), (Rows, every[chosen]))
+        for place in (len(every), -len(every) - 1):
+            with self.assertRaises(IndexError):
+                rows[place]
+
+    def test_arrays_made_by_hand_have_no_offsets(self):
+        read = polytwkb.read(polytwkb.pack(TABLE))
+        made = polytwkb.Arrays(*read)
+        self.assertEqual((made, hasattr(made, "offsets"), pickle.loads(pickle.dumps(made))), (read, False, made))
+        with self.assertRaisesRegex(AttributeError, "not read from a stream"):
+            made.offsets
 
 
 @unittest.skipUnless(numpy, "numpy is not there")
@@ -117,7 +163,14 @@ class Numpy(unittest.TestCase):
         table = numpy.asarray(rows)
         self.assertTrue(numpy.shares_memory(table, numpy.frombuffer(rows.records, rows.dtype)))
         self.assertEqual((table.dtype.itemsize, table.shape), (24, (30000,)))
-        for name, kind in [("id", "i8"), ("counts", "u8"), ("depth", "u4"), ("kind", "u2"), ("has_id", "?"), ("precision", "i1")]:
+        for name, kind in [
+            ("id", "i8"),
+            ("counts", "u8"),
+            ("depth", "u4"),
+            ("kind", "u2"),
+            ("has_id", "?"),
+            ("precision", "i1"),
+        ]:
             column = numpy.asarray(getattr(rows, name))
             self.assertEqual(column.dtype, numpy.dtype(kind))
             self.assertTrue((column == table[name]).all() and numpy.shares_memory(column, table))

@@ -1,6 +1,7 @@
 """`check` has the first refusal of each geometry of a table, and of each blob of a list."""
 import random
 import unittest
+from array import array
 
 import polytwkb
 import vectors
@@ -27,7 +28,9 @@ class Tables(unittest.TestCase):
         ]
         for given in (table, table.encode(), bytearray(table.encode()), memoryview(table.encode())):
             self.assertEqual(found(given), expected)
-        self.assertEqual([(refused.place, refused.text_offset) for refused in polytwkb.check(table)], [(3, 0), (7, 1), (9, 2)])
+        self.assertEqual(
+            [(refused.place, refused.text_offset) for refused in polytwkb.check(table)], [(3, 0), (7, 1), (9, 2)]
+        )
 
     def test_records_are_those_of_csv(self):
         for table, expected in [
@@ -47,7 +50,13 @@ class Tables(unittest.TestCase):
                 self.assertEqual([refused.place for refused in polytwkb.check(table)], expected)
 
     def test_a_table_that_is_refused_as_a_whole(self):
-        for table in ("", "\n", vectors.table_of("")[1:], "\ufeff\ufeff" + vectors.table_of(""), vectors.table_of(RIGHT)[34:]):
+        for table in (
+            "",
+            "\n",
+            vectors.table_of("")[1:],
+            "\ufeff\ufeff" + vectors.table_of(""),
+            vectors.table_of(RIGHT)[34:],
+        ):
             self.assertEqual(found(table), [("record 1: bad header", 0, "BAD_HEADER")])
         self.assertEqual(found(vectors.table_of("")), [])
 
@@ -83,16 +92,54 @@ class Blobs(unittest.TestCase):
     def test_each_blob_is_looked_at_by_itself(self):
         right = bytes.fromhex("0102020402")
         blobs = [right, right[:-1], right + right, b"", bytearray(b"\x08"), memoryview(right), right + b"\x01", None]
-        self.assertEqual(found(blobs), [
-            ("blob 1: byte 4: truncated", 1, "BLOB_TRUNCATED"),
-            ("blob 2: byte 5: size mismatch", 2, "BLOB_SIZE_MISMATCH"),
-            ("blob 3: byte 0: truncated", 3, "BLOB_TRUNCATED"),
-            ("blob 4: byte 0: unknown type", 4, "BLOB_BAD_TYPE"),
-            ("blob 6: byte 5: size mismatch", 6, "BLOB_SIZE_MISMATCH"),
-        ])
+        self.assertEqual(
+            found(blobs),
+            [
+                ("blob 1: byte 4: truncated", 1, "BLOB_TRUNCATED"),
+                ("blob 2: byte 5: size mismatch", 2, "BLOB_SIZE_MISMATCH"),
+                ("blob 3: byte 0: truncated", 3, "BLOB_TRUNCATED"),
+                ("blob 4: byte 0: unknown type", 4, "BLOB_BAD_TYPE"),
+                ("blob 6: byte 5: size mismatch", 6, "BLOB_SIZE_MISMATCH"),
+            ],
+        )
         self.assertEqual((found([]), found(iter([right]))), ([], []))
         self.assertEqual(found([vector["hex"] for vector in ()]), [])
         self.assertEqual(found(bytes.fromhex(vector["hex"]) for vector in vectors.postgis()), [])
+
+    def test_a_stream_has_its_first_refusal(self):
+        right = bytes.fromhex("0102020402")
+        for given, refusals in [
+            (right, []),
+            (right * 3, []),
+            (array("B", right), []),
+            (bytearray(right + right[:-1]), [("byte 9: truncated", 1, "BLOB_TRUNCATED")]),
+            (memoryview(b"\x08" + right), [("byte 0: unknown type", 0, "BLOB_BAD_TYPE")]),
+            (b"\x01", [("byte 1: truncated", 0, "BLOB_TRUNCATED")]),
+            (b"\xa2\x0a\x01", [("byte 2: extra dimensions", 0, "BLOB_EXTRA_DIMENSIONS")]),
+            (b"\xa1\x09\x02", [("byte 2: extra dimensions", 0, "BLOB_EXTRA_DIMENSIONS")]),
+            (b"\x81\x0a\x00\x02\x02\x04", []),
+            (b"\xa4\x0d\x01", [("byte 2: extra dimensions", 0, "BLOB_EXTRA_DIMENSIONS")]),
+        ]:
+            self.assertEqual(found(given), refusals)
+        self.assertEqual(found(b"".join(bytes.fromhex(vector["hex"]) for vector in vectors.postgis())), [])
+        for vector in vectors.postgis():
+            self.assertEqual(found(bytes.fromhex(vector["hex"])), [])
+        wrong_header = [("record 1: bad header", 0, "BAD_HEADER")]
+        for table in (
+            b"",
+            b"\n",
+            b"a\tb\n",
+            b"Depth,kind\n",
+            b'"',
+            b"\xef\xbb\xbfdepth\n",
+            b"\xc3\xa9\n",
+            b"\x22\x0a\x01",
+            "\1",
+            "\1\2",
+            b"\xff\xfed\0",
+        ):
+            self.assertEqual(found(table), wrong_header)
+        self.assertEqual(found(array("B", vectors.table_of("0,pont,,0,AC/").encode()))[0][0], "record 2: unknown kind")
 
     def test_wrong_types(self):
         for given in (None, 7, ["0102"], [7], {"a": b""}):

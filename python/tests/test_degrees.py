@@ -43,24 +43,33 @@ def precisions_of(rows):
 def exact(rows, points):
     """The floats next to the degrees, by fractions."""
     return [
-        [float(Fraction(number) / Fraction(10) ** precision) for number in point] for point, precision in zip(points.tolist(), precisions_of(rows))
+        [float(Fraction(number) / Fraction(10) ** precision) for number in point]
+        for point, precision in zip(points.tolist(), precisions_of(rows))
     ]
 
 
 class Reading(unittest.TestCase):
     def test_each_row_has_its_precision(self):
         for module in with_each_module():
-            for blobs in (polytwkb.pack(MIXED), polytwkb.pack(MIXED) * 20, b"".join(bytes.fromhex(vector["hex"]) for vector in vectors.postgis())):
+            for blobs in (
+                polytwkb.pack(MIXED),
+                polytwkb.pack(MIXED) * 20,
+                b"".join(bytes.fromhex(vector["hex"]) for vector in vectors.postgis()),
+            ):
                 rows, units = polytwkb.read(blobs, degrees=False)
                 found = polytwkb.read(blobs)
                 self.assertEqual((found.rows, found.points.format), (rows, "d"))
                 self.assertEqual(found.points.tolist(), exact(rows, units), module)
                 self.assertEqual(polytwkb.write(*found), polytwkb.write(rows, units))
-        self.assertEqual(polytwkb.read(polytwkb.pack(MIXED)).points.tolist()[2:5], [[1.0, 2.0], [2000.0, 1000.0], [3000.0, 4000.0]])
+        self.assertEqual(
+            polytwkb.read(polytwkb.pack(MIXED)).points.tolist()[2:5], [[1.0, 2.0], [2000.0, 1000.0], [3000.0, 4000.0]]
+        )
 
     def test_degrees_are_the_default_and_units_are_exact(self):
         most, least = (1 << 62) - 1, -(1 << 62)
-        blobs = polytwkb.write({"kind": 2, "counts": [2, 1], "precision": [7, -8]}, [(most, least), (1, (1 << 53) + 1), (least, 3)])
+        blobs = polytwkb.write(
+            {"kind": 2, "counts": [2, 1], "precision": [7, -8]}, [(most, least), (1, (1 << 53) + 1), (least, 3)]
+        )
         rows, units = polytwkb.read(blobs, degrees=False)
         self.assertEqual(units.tolist(), [[most, least], [1, (1 << 53) + 1], [least, 3]])
         for _ in with_each_module():
@@ -81,8 +90,19 @@ class Writing(unittest.TestCase):
         for _ in with_each_module():
             rows, points = polytwkb.read(BLOBS)
             flat = array("d", [number for point in DEGREES for number in point])
-            forms = [points, DEGREES, iter(DEGREES), flat, memoryview(flat), memoryview(flat).toreadonly(), tuple(map(tuple, DEGREES))]
-            forms += [[(Decimal(str(x)), Fraction(str(y))) for x, y in DEGREES], [(int(x) if x == int(x) else x, y) for x, y in DEGREES]]
+            forms = [
+                points,
+                DEGREES,
+                iter(DEGREES),
+                flat,
+                memoryview(flat),
+                memoryview(flat).toreadonly(),
+                tuple(map(tuple, DEGREES)),
+            ]
+            forms += [
+                [(Decimal(str(x)), Fraction(str(y))) for x, y in DEGREES],
+                [(int(x) if x == int(x) else x, y) for x, y in DEGREES],
+            ]
             for form in forms:
                 self.assertEqual(polytwkb.write(rows, form), BLOBS)
             mixed = polytwkb.pack(MIXED)
@@ -94,20 +114,33 @@ class Writing(unittest.TestCase):
         points = [(0.000005, -0.000005), (2.5, 1.000015), (7, -179.9832104)]
         for _ in with_each_module():
             for precision in (5, 0, -2):
-                wanted = polytwkb.encode(points, precision)
+                wanted = polytwkb.encode(points, precision=precision)
                 for form in (points, array("d", [number for point in points for number in point])):
-                    blobs = polytwkb.write({"kind": 2, "counts": [3, 0, 3], "precision": [precision, 1, precision]}, list(points) * 2)
+                    blobs = polytwkb.write(
+                        {"kind": 2, "counts": [3, 0, 3], "precision": [precision, 1, precision]}, list(points) * 2
+                    )
                     self.assertEqual(polytwkb.unpack(blobs).split()[1], f"0,linestring,,{precision},{wanted}")
-                    self.assertEqual(polytwkb.write({"kind": 2, "counts": [3], "precision": precision}, form), polytwkb.split(blobs)[0])
+                    self.assertEqual(
+                        polytwkb.write({"kind": 2, "counts": [3], "precision": precision}, form),
+                        polytwkb.split(blobs)[0],
+                    )
         singles = array("f", [0.1, 0.3])
-        self.assertEqual(polytwkb.read(polytwkb.write({"kind": 1, "counts": [1], "precision": 7}, singles)).points[0], (0.1, 0.3))
+        self.assertEqual(
+            polytwkb.read(polytwkb.write({"kind": 1, "counts": [1], "precision": 7}, singles)).points[0], (0.1, 0.3)
+        )
 
     def test_floats_without_a_unit(self):
         columns = {"kind": 2, "counts": [1, 2], "precision": [5, 3]}
         for _ in with_each_module():
             for number in (float("nan"), float("inf"), float("-inf")):
-                for form in (array("d", [1, 1, 2, 2, 3, number]), [(1.0, 1), (2, 2), (3, number)], [(1, 1), (2, 2), (Decimal(3), number)]):
-                    with self.assertRaisesRegex(ValueError, "^row 1: point 1: a coordinate is a finite number, not -?(nan|inf)$"):
+                for form in (
+                    array("d", [1, 1, 2, 2, 3, number]),
+                    [(1.0, 1), (2, 2), (3, number)],
+                    [(1, 1), (2, 2), (Decimal(3), number)],
+                ):
+                    with self.assertRaisesRegex(
+                        ValueError, "^row 1: point 1: a coordinate is a finite number, not -?(nan|inf)$"
+                    ):
                         polytwkb.write(columns, form)
             for number in (1e300, -1e300, 2.0**62 / 1e3, 10**40):
                 with self.assertRaisesRegex(polytwkb.Refused, "^row 1: point 0: coordinate out of range$"):
@@ -118,9 +151,12 @@ class Writing(unittest.TestCase):
     def test_what_is_wrong_with_a_row_is_said_of_floats_too(self):
         for _ in with_each_module():
             for change, count, text in [
-                ({"precision": 8}, 1, "row 0: bad precision"), ({"precision": NO_PRECISION}, 1, "row 0: precision missing"),
+                ({"precision": 8}, 1, "row 0: bad precision"),
+                ({"precision": NO_PRECISION}, 1, "row 0: precision missing"),
                 ({"kind": 9}, 1, "row 0: unknown kind"),
-                ({"counts": [(1 << 64) - 1]}, 1, "row 0: points missing"), ({"counts": [2]}, 1, "row 0: points missing"), ({}, 2, "points left over"),
+                ({"counts": [(1 << 64) - 1]}, 1, "row 0: points missing"),
+                ({"counts": [2]}, 1, "row 0: points missing"),
+                ({}, 2, "points left over"),
                 ({"counts": [2, (1 << 64) - 1]}, 3, "row 0: wrong number of points"),
             ]:
                 columns = {"kind": 1, "counts": [1], "precision": 5, **change}
@@ -136,10 +172,20 @@ class Numpy(unittest.TestCase):
         flat = numpy.asarray(points)
         self.assertEqual((flat.dtype, flat.shape), (numpy.dtype("f8"), (80, 2)))
         unaligned = numpy.frombuffer(b"1" + flat.tobytes(), "u1")[1:].view("f8").reshape(-1, 2)
-        for form in (flat, flat.reshape(-1), flat.copy(order="F"), numpy.repeat(flat, 2, axis=0)[::2], flat[::-1][::-1], unaligned):
+        for form in (
+            flat,
+            flat.reshape(-1),
+            flat.copy(order="F"),
+            numpy.repeat(flat, 2, axis=0)[::2],
+            flat[::-1][::-1],
+            unaligned,
+        ):
             self.assertEqual(polytwkb.write(rows, form), BLOBS * 10)
         self.assertEqual(polytwkb.write(rows, flat.astype("f4")), BLOBS * 10)
-        self.assertEqual(polytwkb.write(columns_of([(1, 1, 0, 0, 0, 0)]), numpy.float64([[3, 4]])), polytwkb.write(columns_of([(1, 1, 0, 0, 0, 0)]), [(3, 4)]))
+        self.assertEqual(
+            polytwkb.write(columns_of([(1, 1, 0, 0, 0, 0)]), numpy.float64([[3, 4]])),
+            polytwkb.write(columns_of([(1, 1, 0, 0, 0, 0)]), [(3, 4)]),
+        )
 
 
 if __name__ == "__main__":

@@ -29,9 +29,24 @@ def all_of_stream(*given):
 
 
 CALLS = (
-    polytwkb.pack, polytwkb.unpack, polytwkb.show, polytwkb.split, polytwkb.encode, polytwkb.decode, polytwkb.decode_flat, polytwkb.check,
-    polytwkb.read, polytwkb.geometries, polytwkb.in_units, polytwkb.in_degrees, polytwkb.write, polytwkb.write, polytwkb.pack_geometries,
-    all_of_stream, *([polytwkb.ragged, polytwkb.pack_ragged] if numpy else []),
+    polytwkb.pack,
+    polytwkb.unpack,
+    polytwkb.show,
+    polytwkb.to_geojson,
+    polytwkb.split,
+    polytwkb.encode,
+    polytwkb.decode,
+    polytwkb.decode_flat,
+    polytwkb.check,
+    polytwkb.read,
+    polytwkb.geometries,
+    polytwkb.in_units,
+    polytwkb.in_degrees,
+    polytwkb.write,
+    polytwkb.write,
+    polytwkb.pack_geometries,
+    all_of_stream,
+    *([polytwkb.ragged, polytwkb.pack_ragged] if numpy else []),
 )
 # How many arguments a call takes at least, where that is not one.
 ARGUMENTS = {"in_units": 2, "in_degrees": 2, "pack_geometries": 2, "pack_ragged": 2}
@@ -46,12 +61,32 @@ def changed(chance, given):
     for _ in range(chance.choice([0, 1, 1, 2, 8])):
         place = chance.randrange(len(given) + 1)
         other = chance.randrange(len(given) + 1)
-        given[place:other] = chance.choice([b"", bytes([chance.randrange(256)]), given[other:place], b"\xff" * 9, b"0,point,,0,AA\n"])
+        given[place:other] = chance.choice(
+            [b"", bytes([chance.randrange(256)]), given[other:place], b"\xff" * 9, b"0,point,,0,AA\n"]
+        )
     return bytes(given)
 
 
 def number(chance):
-    return chance.choice([0, 1, -1, 5, 1.5, -180.0, 1 << 62, -(1 << 62), 1 << 63, 10**40, float("nan"), float("inf"), None, "7", chance.random() * 360])
+    return chance.choice(
+        [
+            0,
+            1,
+            -1,
+            5,
+            1.5,
+            -180.0,
+            1 << 62,
+            -(1 << 62),
+            1 << 63,
+            10**40,
+            float("nan"),
+            float("inf"),
+            None,
+            "7",
+            chance.random() * 360,
+        ]
+    )
 
 
 def buffer(chance):
@@ -75,26 +110,56 @@ def value(chance):
     if kind < 2:
         return changed(chance, b"".join(chance.choices(BLOBS, k=chance.randrange(4))))
     if kind < 4:
-        return changed(chance, (vectors.HEADER + "".join(chance.choices(TABLES, k=chance.randrange(4)))).encode()).decode("latin-1")
+        return changed(
+            chance, (vectors.HEADER + "".join(chance.choices(TABLES, k=chance.randrange(4)))).encode()
+        ).decode("latin-1")
     if kind == 4:
         return changed(chance, b"".join(chance.choices(TEXTS, k=chance.randrange(4))))
     if kind == 5:
-        return [tuple(number(chance) for _ in range(chance.choice([2, 2, 2, 2, 1, 3]))) for _ in range(chance.randrange(5))]
+        return [
+            tuple(number(chance) for _ in range(chance.choice([2, 2, 2, 2, 1, 3]))) for _ in range(chance.randrange(5))
+        ]
     if kind == 6:
-        return array("q", [chance.randrange(-(1 << 63), 1 << 63) >> chance.randrange(64) for _ in range(chance.randrange(9))])
+        return array(
+            "q", [chance.randrange(-(1 << 63), 1 << 63) >> chance.randrange(64) for _ in range(chance.randrange(9))]
+        )
     if kind == 7:
         return chance.choice([bytearray, memoryview])(chance.choice(BLOBS))
     if kind == 8:
         return buffer(chance)
     if kind == 9:
-        return [chance.choice([blob, blob, changed(chance, blob), None]) for blob in chance.choices(BLOBS, k=chance.randrange(4))]
-    return chance.choice([None, 7, "", b"", [], {}, object(), "\ud800", "\x00", "ä", array("d", [1, 2]), memoryview(b"12345678")[::3], range(3)])
+        return [
+            chance.choice([blob, blob, changed(chance, blob), None])
+            for blob in chance.choices(BLOBS, k=chance.randrange(4))
+        ]
+    return chance.choice(
+        [
+            None,
+            7,
+            "",
+            b"",
+            [],
+            {},
+            object(),
+            "\ud800",
+            "\x00",
+            "ä",
+            array("d", [1, 2]),
+            memoryview(b"12345678")[::3],
+            range(3),
+        ]
+    )
 
 
 def column(chance, count):
     """A column of rows, of any type, mostly of so many numbers."""
     count = chance.choice([count, count, count, count + 1, 0])
-    numbers = [chance.choice([0, 0, 1, 1, 2, 3, 4, 8, -128, -1, 9, 1 << 16, 1 << 63, None, 1.5, "7"][: chance.choice([8, 8, 9, 16])]) for _ in range(count)]
+    numbers = [
+        chance.choice(
+            [0, 0, 1, 1, 2, 3, 4, 8, -128, -1, 9, 1 << 16, 1 << 63, None, 1.5, "7"][: chance.choice([8, 8, 9, 16])]
+        )
+        for _ in range(count)
+    ]
     return chance.choice([numbers, numbers, chance.choice([0, 1, 2, 4, -128, 5]), buffer(chance)])
 
 
@@ -104,19 +169,44 @@ def rows(chance):
     names = ["kind", "counts", "depth", "precision", "id", "has_id"]
     if chance.randrange(2):
         records = changed(chance, found.records)
-        return chance.choice([bytes, bytearray, memoryview])(records[: chance.choice([len(records), len(records) // 24 * 24])])
+        return chance.choice([bytes, bytearray, memoryview])(
+            records[: chance.choice([len(records), len(records) // 24 * 24])]
+        )
     if chance.randrange(2):
         return {name: column(chance, len(found)) for name in names[: chance.choice([2, 4, 6, 6])]}
     made = {name: chance.choice([getattr(found, name)] * 5 + [column(chance, len(found))]) for name in names}
-    return chance.choice([found, made, numpy.frombuffer(found.records, found.dtype)[:: chance.choice([1, 1, 2, -1])] if numpy else found])
+    return chance.choice(
+        [found, made, numpy.frombuffer(found.records, found.dtype)[:: chance.choice([1, 1, 2, -1])] if numpy else found]
+    )
 
 
 def mapping(chance, depth=0):
     """A mapping of the geo interface, mostly as it should be."""
-    kind = chance.choice(["Point", "LineString", "Polygon", "MultiPoint", "MultiLineString", "MultiPolygon", "GeometryCollection", "Feature", "X", None])
-    made = {"type": kind, "coordinates": chance.choice([(), (1, 2.5), [(1, 2.5), (3, 4)], [[(1, 2)]], [[[(1, 2), (3, 4)]], []], value(chance)])}
+    kind = chance.choice(
+        [
+            "Point",
+            "LineString",
+            "Polygon",
+            "MultiPoint",
+            "MultiLineString",
+            "MultiPolygon",
+            "GeometryCollection",
+            "Feature",
+            "X",
+            None,
+        ]
+    )
+    made = {
+        "type": kind,
+        "coordinates": chance.choice(
+            [(), (1, 2.5), [(1, 2.5), (3, 4)], [[(1, 2)]], [[[(1, 2), (3, 4)]], []], value(chance)]
+        ),
+    }
     members = [mapping(chance, depth + 1) for _ in range(chance.randrange(3 if depth < 3 else 1))]
-    made["geometries"], made["geometry"] = chance.choice([members, members, value(chance)]), members[0] if members else None
+    made["geometries"], made["geometry"] = (
+        chance.choice([members, members, value(chance)]),
+        members[0] if members else None,
+    )
     if chance.randrange(4) == 0:
         made["ids"] = chance.choice([[1], [1, 2], [1, None], value(chance)])
     return chance.choice([made, made, [made, made], members])
@@ -126,8 +216,15 @@ def ragged_column(chance):
     """A column of coordinates and offsets, mostly as it should be."""
     coordinates = numpy.array([[number(chance) or 0.0 for _ in "xy"] for _ in range(4)], dtype=object)
     coordinates = chance.choice([numpy.arange(8.0).reshape(4, 2), buffer(chance), coordinates])
-    offsets = [sorted(chance.choices([0, 1, 2, 3, 4, 5, -1], [9, 9, 9, 9, 9, 1, 1], k=chance.randrange(1, 5))) for _ in range(chance.choice([1, 1, 2, 3]))]
-    return chance.choice([0, 1, 3, 4, 5, 6, 7, None]), coordinates, chance.choice([(), offsets, offsets, offsets, value(chance)])
+    offsets = [
+        sorted(chance.choices([0, 1, 2, 3, 4, 5, -1], [9, 9, 9, 9, 9, 1, 1], k=chance.randrange(1, 5)))
+        for _ in range(chance.choice([1, 1, 2, 3]))
+    ]
+    return (
+        chance.choice([0, 1, 3, 4, 5, 6, 7, None]),
+        coordinates,
+        chance.choice([(), offsets, offsets, offsets, value(chance)]),
+    )
 
 
 def arguments(chance, call):
@@ -140,7 +237,9 @@ def arguments(chance, call):
     if call is polytwkb.write and chance.randrange(4):
         count = chance.randrange(6)
         points = [tuple(chance.choices([0, 1, 5, 1 << 62, 1 << 64], [9, 9, 9, 1, 1], k=2)) for _ in range(count)]
-        points = chance.choice([points, [(x + 0.5, y) for x, y in points], array("q", [1, 2] * count), array("d", [1, 2.5] * count)])
+        points = chance.choice(
+            [points, [(x + 0.5, y) for x, y in points], array("q", [1, 2] * count), array("d", [1, 2.5] * count)]
+        )
         given = [rows(chance), chance.choice([points, points, points, buffer(chance), value(chance)])]
     elif call is polytwkb.write:
         given.append(value(chance))
@@ -156,7 +255,23 @@ def one(chance):
     call = chance.choice(CALLS)
     given = arguments(chance, call)
     if chance.randrange(4) == 0:
-        given.append(chance.choice(["full", "plain", "", None, 5, -8, 8, polytwkb.Limits(), polytwkb.Limits(0, 1, 0), (0, 2, 3), polytwkb.Limits(nest=99)]))
+        given.append(
+            chance.choice(
+                [
+                    "full",
+                    "plain",
+                    "",
+                    None,
+                    5,
+                    -8,
+                    8,
+                    polytwkb.Limits(),
+                    polytwkb.Limits(0, 1, 0),
+                    (0, 2, 3),
+                    polytwkb.Limits(nest=99),
+                ]
+            )
+        )
     try:
         answer = call(*given)
     except polytwkb.Refused as refused:
@@ -164,7 +279,16 @@ def one(chance):
     except ALLOWED:
         pass
     else:
-        assert type(answer) in (bytes, str, list, array, polytwkb.Points, polytwkb.Packed, polytwkb.Ragged, polytwkb.Arrays)
+        assert type(answer) in (
+            bytes,
+            str,
+            list,
+            array,
+            polytwkb.Points,
+            polytwkb.Packed,
+            polytwkb.Ragged,
+            polytwkb.Arrays,
+        )
 
 
 class Hostile(unittest.TestCase):
@@ -201,7 +325,9 @@ for _ in range({CASES}):
     test_hostile.one(chance)
 print("lives", lacked)
 """
-        run = subprocess.run([sys.executable, "-B", "-c", child], stdout=subprocess.PIPE, stderr=subprocess.PIPE, text=True, check=False)
+        run = subprocess.run(
+            [sys.executable, "-B", "-c", child], stdout=subprocess.PIPE, stderr=subprocess.PIPE, text=True, check=False
+        )
         self.assertEqual((run.returncode, run.stdout.split()[:1]), (0, ["lives"]), run.stderr)
         self.assertGreaterEqual(int(run.stdout.split()[1]), 2)
 

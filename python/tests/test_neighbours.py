@@ -9,7 +9,7 @@ from array import array
 from unittest import mock
 
 import polytwkb
-from polytwkb import _memory, _writing
+from polytwkb import _library, _memory, _writing
 from test_arrays import DEGREES, POINTS, TABLE
 from test_writing import BLOBS, ROWS, columns_of
 
@@ -45,7 +45,9 @@ class Pickles(unittest.TestCase):
             found = copied(arrays)
             self.assertEqual((type(found), found, found.offsets), (polytwkb.Arrays, arrays, arrays.offsets))
             self.assertEqual((copied(arrays.rows), copied(arrays.points)), (arrays.rows, arrays.points))
-            self.assertEqual((copied(packed), copied(packed).offsets, copied(packed).blobs), (packed, packed.offsets, packed.blobs))
+            self.assertEqual(
+                (copied(packed), copied(packed).offsets, copied(packed).blobs), (packed, packed.offsets, packed.blobs)
+            )
             empty = polytwkb.read(b"", degrees=False)
             self.assertEqual((copied(empty), copied(empty).points.format), (empty, "q"))
         points = polytwkb.in_units([(1, 2)], 0)
@@ -53,8 +55,12 @@ class Pickles(unittest.TestCase):
 
     def test_refusals(self):
         for call, given in [
-            (polytwkb.read, (BLOBS + b"\x08",)), (polytwkb.geometries, ([BLOBS[:2]],)), (polytwkb.encode, ([(1 << 62, 0)],)), (polytwkb.unpack, (BLOBS[:-1],)),
-            (polytwkb.write, (columns_of(ROWS), POINTS[1:])), (polytwkb.pack_geometries, ([{"type": "Point", "coordinates": (1e30, 0)}], 0)),
+            (polytwkb.read, (BLOBS + b"\x08",)),
+            (polytwkb.geometries, ([BLOBS[:2]],)),
+            (polytwkb.encode, ([(1 << 62, 0)],)),
+            (polytwkb.unpack, (BLOBS[:-1],)),
+            (polytwkb.write, (columns_of(ROWS), POINTS[1:])),
+            (polytwkb.pack_geometries, ([{"type": "Point", "coordinates": (1e30, 0)}], 0)),
         ]:
             with self.assertRaises(polytwkb.Refused) as caught:
                 call(*given)
@@ -69,7 +75,9 @@ class Pickles(unittest.TestCase):
             self.assertEqual(found, list(map(polytwkb.read, PARTS)))
             with self.assertRaises(polytwkb.Refused) as caught:
                 pool.map(polytwkb.read, [BLOBS, BLOBS + b"\x08"])
-        self.assertEqual((str(caught.exception), caught.exception.output), (f"byte {len(BLOBS)}: unknown type", polytwkb.read(BLOBS)))
+        self.assertEqual(
+            (str(caught.exception), caught.exception.output), (f"byte {len(BLOBS)}: unknown type", polytwkb.read(BLOBS))
+        )
 
     @unittest.skipUnless(dask, "dask is not there")
     def test_dask(self):
@@ -82,15 +90,26 @@ class Sequences(unittest.TestCase):
     def test_points_without_numpy(self):
         points = polytwkb.read(BLOBS).points
         pairs = list(map(tuple, DEGREES))
-        self.assertEqual(([(x, y) for x, y in points], points[0], points[-1], points[4, 0], len(points)), (pairs, pairs[0], pairs[-1], 0.02, 8))
-        self.assertEqual((points[1:3].tolist(), points[::-2].tolist(), points[5:2].tolist()), (DEGREES[1:3], DEGREES[::-2], []))
+        self.assertEqual(
+            ([(x, y) for x, y in points], points[0], points[-1], points[4, 0], len(points)),
+            (pairs, pairs[0], pairs[-1], 0.02, 8),
+        )
+        self.assertEqual(
+            (points[1:3].tolist(), points[::-2].tolist(), points[5:2].tolist()), (DEGREES[1:3], DEGREES[::-2], [])
+        )
         self.assertEqual((list(points.x), list(points.y)), ([x for x, _ in pairs], [y for _, y in pairs]))
-        self.assertEqual((points.flat.tolist(), points.tobytes()), ([number for pair in pairs for number in pair], points.flat.tobytes()))
+        self.assertEqual(
+            (points.flat.tolist(), points.tobytes()),
+            ([number for pair in pairs for number in pair], points.flat.tobytes()),
+        )
         for place in (8, -9):
             with self.assertRaises(IndexError):
                 points[place]
-        self.assertEqual((points == points[:], points == points[:-1], points == pairs, repr(points)), (True, False, False, "<polytwkb.Points: 8, in degrees>"))
-        self.assertEqual(polytwkb.encode(points, 2), polytwkb.encode(pairs, 2))
+        self.assertEqual(
+            (points == points[:], points == points[:-1], points == pairs, repr(points)),
+            (True, False, False, "<polytwkb.Points: 8, in degrees>"),
+        )
+        self.assertEqual(polytwkb.encode(points, precision=2), polytwkb.encode(pairs, precision=2))
         if sys.version_info >= (3, 12):
             self.assertEqual((memoryview(points).shape, memoryview(points).tolist()), ((8, 2), DEGREES))
         self.assertEqual(polytwkb.in_units(points, 2).tolist()[:6], POINTS[:6])
@@ -106,11 +125,24 @@ class Messages(unittest.TestCase):
         rows = polytwkb.read(BLOBS).rows
         half = memoryview(bytes(4)).cast("B")
         for call, given, text in [
-            (polytwkb.in_degrees, (array("d", [1, 2]), 5), "not floats: in_degrees is given units, and makes floats of them"),
-            (polytwkb.encode, (array("d", [1, 2]),), "not floats: give a precision"), (polytwkb.write, (rows, half), "not items of format 'B'"),
+            (
+                polytwkb.in_degrees,
+                (array("d", [1, 2]), 5),
+                "not floats: in_degrees is given units, and makes floats of them",
+            ),
+            (polytwkb.encode, (array("d", [1, 2]),), "not floats: give a precision"),
+            (polytwkb.write, (rows, half), "not items of format 'B'"),
             (polytwkb.write, (rows, array("q", [1])), "x and y of each: one dimension, or two columns"),
-            (polytwkb.geometries, ([BLOBS], None, "ignore"), "errors is 'raise' or 'collect', not 'ignore'"),
-            (polytwkb.geometries, (BLOBS, None, "collect"), "errors='collect' needs a list of blobs"),
+            (
+                lambda given: polytwkb.geometries(given, errors="ignore"),
+                ([BLOBS],),
+                "errors is 'raise' or 'collect', not 'ignore'",
+            ),
+            (
+                lambda given: polytwkb.geometries(given, errors="collect"),
+                (BLOBS,),
+                "errors='collect' needs a list of blobs",
+            ),
             (polytwkb.read, ([BLOBS],), "a stream of blobs is bytes, not list"),
         ]:
             with self.subTest(text=text), self.assertRaises((TypeError, ValueError)) as caught:
@@ -133,20 +165,46 @@ class Buffers(unittest.TestCase):
             memory[:] = bytes(len(memory))
             self.assertEqual((own, polytwkb.write(own, points)), (rows, BLOBS))
 
+    def test_only_integers_in_place_keep_other_threads_waiting(self):
+        """What is rounded, gathered of pairs or copied is in memory that nothing else has."""
+        rows, points = polytwkb.read(BLOBS, degrees=False)
+        degrees, held = polytwkb.read(BLOBS).points, []
+
+        def hook(*given):
+            held.append(given)
+            return _library.write_in_place(*given)
+
+        with mock.patch.object(_writing, "write_in_place", hook):
+            for given in (degrees, points.tolist(), degrees.tolist(), points.view.toreadonly()):
+                self.assertEqual((polytwkb.write(rows, given), held), (BLOBS, []))
+            packed = polytwkb.pack_geometries(polytwkb.geometries(BLOBS), 2)
+            self.assertEqual((polytwkb.read(packed).points, held), (degrees, []))
+            if numpy:
+                column = polytwkb.ragged(polytwkb.split(BLOBS)[:1])
+                self.assertEqual((polytwkb.pack_ragged(column, 2), held), (polytwkb.split(BLOBS)[0], []))
+            self.assertEqual((polytwkb.write(rows, points), len(held)), (BLOBS, 1))
+
     def test_buffers_that_are_not_aligned(self):
         rows, points = polytwkb.read(BLOBS, degrees=False)
         shifted = memoryview(bytearray(b"1" + points.tobytes()))[1:].cast("q")
         self.assertEqual(_memory.borrowed(shifted), points.tobytes())
         shifted_rows = memoryview(bytearray(b"1" + rows.records))[1:]
-        self.assertEqual((polytwkb.write(shifted_rows, shifted), polytwkb.encode(shifted)), (BLOBS, polytwkb.encode(points)))
+        self.assertEqual(
+            (polytwkb.write(shifted_rows, shifted), polytwkb.encode(shifted)), (BLOBS, polytwkb.encode(points))
+        )
         self.assertEqual(polytwkb.in_degrees(shifted, 2).tolist()[:6], DEGREES[:6])
 
 
 class Streams(unittest.TestCase):
     def test_blobs_as_their_bytes_come(self):
-        plain = polytwkb.pack(TABLE, "plain")
+        plain = polytwkb.pack(TABLE, style="plain")
         for blobs in (BLOBS, plain, BLOBS + plain + BLOBS * 2, b""):
-            for pieces in (io.BytesIO(blobs), [blobs], [bytes([byte]) for byte in blobs], [blobs[:3], b"", bytearray(blobs[3:])]):
+            for pieces in (
+                io.BytesIO(blobs),
+                [blobs],
+                [bytes([byte]) for byte in blobs],
+                [blobs[:3], b"", bytearray(blobs[3:])],
+            ):
                 found = list(polytwkb.stream(pieces))
                 self.assertEqual(b"".join(found), blobs)
                 self.assertEqual([blob for part in found for blob in polytwkb.split(part)], polytwkb.split(blobs))
@@ -165,7 +223,8 @@ class Streams(unittest.TestCase):
     def test_refusals_have_their_place_in_the_stream(self):
         polygon = polytwkb.split(BLOBS)[0]
         for given, text, done, parts in [
-            ([BLOBS, BLOBS + b"\x08", BLOBS], f"byte {2 * len(BLOBS)}: unknown type", 4, [BLOBS, BLOBS]), ([BLOBS, polygon[:-1]], None, 2, [BLOBS]),
+            ([BLOBS, BLOBS + b"\x08", BLOBS], f"byte {2 * len(BLOBS)}: unknown type", 4, [BLOBS, BLOBS]),
+            ([BLOBS, polygon[:-1]], None, 2, [BLOBS]),
             ([BLOBS[:-1], b"\x80" * 10], None, 1, [polygon]),
         ]:
             found, stream = [], polytwkb.stream(given)
@@ -174,18 +233,24 @@ class Streams(unittest.TestCase):
                     found.append(blobs)
             with self.assertRaises(polytwkb.Refused) as whole:
                 polytwkb.read(b"".join(given))
-            self.assertEqual((str(caught.exception), caught.exception.done, found), (text or str(whole.exception), done, parts))
-            self.assertEqual((str(caught.exception), caught.exception.place), (str(whole.exception), whole.exception.place))
+            self.assertEqual(
+                (str(caught.exception), caught.exception.done, found), (text or str(whole.exception), done, parts)
+            )
+            self.assertEqual(
+                (str(caught.exception), caught.exception.place), (str(whole.exception), whole.exception.place)
+            )
         for wrong in (None, 7, "ab", BLOBS, bytearray(BLOBS), ["ab"], io.StringIO("ab")):
             with self.subTest(wrong=wrong), self.assertRaises(TypeError):
                 list(polytwkb.stream(wrong))
 
     def test_a_blob_in_many_pieces_is_not_read_at_each(self):
         large = polytwkb.write({"kind": 2, "counts": [60000], "precision": 0}, array("q", range(0, 12000000, 100)))
-        plain = polytwkb.write(*polytwkb.read(large), "plain")
+        plain = polytwkb.write(*polytwkb.read(large), style="plain")
         for blob, most in ((large, 4), (plain, 12)):
-            with mock.patch("polytwkb._streams.measured", wraps=polytwkb._streams.measured) as looked:
-                self.assertEqual(list(polytwkb.stream(blob[place : place + 1000] for place in range(0, len(blob), 1000))), [blob])
+            with mock.patch("polytwkb._reading._read_into", wraps=polytwkb._reading._read_into) as looked:
+                self.assertEqual(
+                    list(polytwkb.stream(blob[place : place + 1000] for place in range(0, len(blob), 1000))), [blob]
+                )
             self.assertLess(looked.call_count, len(blob) // 1000 // 2 + most)
 
 
@@ -196,8 +261,12 @@ class Numpy(unittest.TestCase):
         for kind in ("i8", "f8"):
             masked = numpy.ma.array([[1, 2], [3, 4]], kind, mask=[[False, True], [False, False]])
             for call, given in [
-                (polytwkb.encode, (masked,)), (polytwkb.encode, (masked, 5)), (polytwkb.in_units, (masked, 5)), (polytwkb.in_degrees, (masked, 5)),
-                (polytwkb.write, (rows, masked)), (polytwkb.write, ({"kind": 2, "counts": masked[:, 0], "precision": 0}, [(1, 2)])),
+                (polytwkb.encode, (masked,)),
+                (lambda given: polytwkb.encode(given, precision=5), (masked,)),
+                (polytwkb.in_units, (masked, 5)),
+                (polytwkb.in_degrees, (masked, 5)),
+                (polytwkb.write, (rows, masked)),
+                (polytwkb.write, ({"kind": 2, "counts": masked[:, 0], "precision": 0}, [(1, 2)])),
                 (polytwkb.pack_geometries, ({"type": "LineString", "coordinates": masked}, 5)),
             ]:
                 with self.subTest(call=call.__name__, kind=kind), self.assertRaisesRegex(TypeError, "[Mm]ask"):
@@ -211,8 +280,13 @@ class Numpy(unittest.TestCase):
         fixed.setflags(write=False)
         for given in (units, fixed, numpy.asfortranarray(units), unaligned, unaligned.copy(), units[::-1][::-1]):
             self.assertEqual(polytwkb.encode(given), expected)
-        for given in (units.astype("f8"), units.astype("f4"), numpy.asfortranarray(units.astype("f4")), unaligned.astype(float)):
-            self.assertEqual(polytwkb.encode(given, 0), expected)
+        for given in (
+            units.astype("f8"),
+            units.astype("f4"),
+            numpy.asfortranarray(units.astype("f4")),
+            unaligned.astype(float),
+        ):
+            self.assertEqual(polytwkb.encode(given, precision=0), expected)
             self.assertEqual(polytwkb.in_units(given, 0).tolist(), units.tolist())
         columns = {"kind": 2, "counts": numpy.array([[3, 9]])[:, 0], "precision": numpy.zeros(2, "i1")[::2]}
         for given in (units, fixed, unaligned, units.astype("f4"), numpy.asfortranarray(units.astype(float))):
@@ -222,7 +296,9 @@ class Numpy(unittest.TestCase):
     def test_frames(self):
         rows, points = polytwkb.read(BLOBS)
         for frame in (pandas.DataFrame(rows), pandas.DataFrame(numpy.asarray(rows))):
-            self.assertEqual({name: list(frame[name]) for name in frame}, {name: list(getattr(rows, name)) for name in rows.places})
+            self.assertEqual(
+                {name: list(frame[name]) for name in frame}, {name: list(getattr(rows, name)) for name in rows.places}
+            )
             self.assertEqual(polytwkb.write({name: frame[name].to_numpy() for name in frame}, points), BLOBS)
         frame = pandas.DataFrame(points, columns=["x", "y"])
         self.assertEqual(frame.values.tolist(), DEGREES)

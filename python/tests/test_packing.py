@@ -20,15 +20,27 @@ except ImportError:
     geopandas = None
 
 WRONG = [
-    (7, TypeError), ("Point", TypeError), ({"type": "Point"}, TypeError), ({"type": "Point", "coordinates": (1,)}, TypeError),
-    ({"type": "Point", "coordinates": (1, 2, 3)}, TypeError), ({"type": "Point", "coordinates": ("1", 2)}, TypeError),
+    (7, TypeError),
+    ("Point", TypeError),
+    ({"type": "Point"}, TypeError),
+    ({"type": "Point", "coordinates": (1,)}, TypeError),
+    ({"type": "Point", "coordinates": (1, 2, 3)}, TypeError),
+    ({"type": "Point", "coordinates": ("1", 2)}, TypeError),
     ({"type": "Point", "coordinates": (None, 2)}, TypeError),
-    ({"type": "LineString", "coordinates": (1, 2)}, TypeError), ({"type": "LineString", "coordinates": "ab"}, TypeError),
+    ({"type": "LineString", "coordinates": (1, 2)}, TypeError),
+    ({"type": "LineString", "coordinates": "ab"}, TypeError),
     ({"type": "Polygon", "coordinates": [1]}, TypeError),
-    ({"type": "GeometryCollection", "coordinates": []}, TypeError), ({"type": "GeometryCollection", "geometries": [5]}, TypeError),
-    ({"type": "Feature"}, TypeError), ({"type": "GeometryCollection", "geometries": [None]}, TypeError), ({"type": "MultiPoint", "coordinates": [(1, 2)], "ids": 5}, TypeError),
-    ({}, ValueError), ({"type": "point"}, ValueError), ({"type": ["Point"]}, ValueError), ({"type": "Point", "coordinates": (float("nan"), 2)}, ValueError),
-    ({"type": "MultiPoint", "coordinates": [(1, 2)], "ids": []}, ValueError), ({"type": "MultiPoint", "coordinates": [(1, 2)], "ids": ["7"]}, ValueError),
+    ({"type": "GeometryCollection", "coordinates": []}, TypeError),
+    ({"type": "GeometryCollection", "geometries": [5]}, TypeError),
+    ({"type": "Feature"}, TypeError),
+    ({"type": "GeometryCollection", "geometries": [None]}, TypeError),
+    ({"type": "MultiPoint", "coordinates": [(1, 2)], "ids": 5}, TypeError),
+    ({}, ValueError),
+    ({"type": "point"}, ValueError),
+    ({"type": ["Point"]}, ValueError),
+    ({"type": "Point", "coordinates": (float("nan"), 2)}, ValueError),
+    ({"type": "MultiPoint", "coordinates": [(1, 2)], "ids": []}, ValueError),
+    ({"type": "MultiPoint", "coordinates": [(1, 2)], "ids": ["7"]}, ValueError),
     ({"type": "MultiPoint", "coordinates": [(1, 2)], "ids": [1 << 63]}, ValueError),
 ]
 
@@ -44,13 +56,22 @@ class Mappings(unittest.TestCase):
                 precision = int(rows.split("/")[0].split(",")[3])
                 self.assertEqual(polytwkb.pack_geometries(mapping, precision), table_of(rows))
         mappings = [mapping for rows, mapping in SHAPES if rows.split("/")[0].split(",")[3] == "0"]
-        stream = b"".join(polytwkb.pack_geometries(mapping, 0, "plain") for mapping in mappings)
+        stream = b"".join(polytwkb.pack_geometries(mapping, 0, style="plain") for mapping in mappings)
         self.assertEqual(polytwkb.geometries(stream), mappings)
-        features = {"type": "FeatureCollection", "features": [{"type": "Feature", "geometry": mapping} for mapping in mappings]}
+        features = {
+            "type": "FeatureCollection",
+            "features": [{"type": "Feature", "geometry": mapping} for mapping in mappings],
+        }
         for given in (mappings, iter(mappings), tuple(mappings), features):
-            self.assertEqual(polytwkb.pack_geometries(given, 0, "plain"), stream)
+            self.assertEqual(polytwkb.pack_geometries(given, 0, style="plain"), stream)
         self.assertEqual(polytwkb.geometries(polytwkb.split(stream)), mappings)
-        self.assertEqual((polytwkb.pack_geometries([], 5), polytwkb.pack_geometries({"type": "FeatureCollection", "features": []}, 5)), (b"", b""))
+        self.assertEqual(
+            (
+                polytwkb.pack_geometries([], 5),
+                polytwkb.pack_geometries({"type": "FeatureCollection", "features": []}, 5),
+            ),
+            (b"", b""),
+        )
 
     def test_coordinates_in_buffers(self):
         line = {"type": "LineString", "coordinates": polytwkb.in_degrees([(1, 1), (5, 5)], 5)}
@@ -69,24 +90,37 @@ class Mappings(unittest.TestCase):
         nothing = {"type": "Feature", "geometry": None}
         point = table_of("0,point,,0,CA/")
         for given, blobs in [
-            ([None, RIGHT, None, None, RIGHT], [None, point, None, None, point]), ([RIGHT, nothing], [point, None]), ([None], [None]), ([], []),
-            ({"type": "FeatureCollection", "features": [nothing, {"type": "Feature", "geometry": RIGHT}]}, [None, point]), (nothing, [None]),
+            ([None, RIGHT, None, None, RIGHT], [None, point, None, None, point]),
+            ([RIGHT, nothing], [point, None]),
+            ([None], [None]),
+            ([], []),
+            (
+                {"type": "FeatureCollection", "features": [nothing, {"type": "Feature", "geometry": RIGHT}]},
+                [None, point],
+            ),
+            (nothing, [None]),
         ]:
             packed = polytwkb.pack_geometries(given, 0)
             self.assertEqual((packed.blobs, packed), (blobs, b"".join(filter(None, blobs))))
-            self.assertEqual(packed.offsets.tolist(), [len(b"".join(filter(None, blobs[:place]))) for place in range(len(blobs) + 1)])
+            self.assertEqual(
+                packed.offsets.tolist(), [len(b"".join(filter(None, blobs[:place]))) for place in range(len(blobs) + 1)]
+            )
             self.assertEqual(polytwkb.split(packed), list(filter(None, blobs)))
             self.assertEqual(polytwkb.geometries(packed.blobs), [blob and RIGHT for blob in blobs])
         with self.assertRaises(polytwkb.Refused) as caught:
             polytwkb.pack_geometries([None, RIGHT, None, {"type": "Point", "coordinates": (1 << 62, 0)}], 0)
         refused = caught.exception
-        self.assertEqual((str(refused), refused.done, refused.output.blobs), ("geometry 3: coordinate out of range", 3, [None, point, None]))
+        self.assertEqual(
+            (str(refused), refused.done, refused.output.blobs),
+            ("geometry 3: coordinate out of range", 3, [None, point, None]),
+        )
         with self.assertRaisesRegex(ValueError, "^geometry 2: a coordinate is a finite number"):
             polytwkb.pack_geometries([None, RIGHT, {"type": "Point", "coordinates": (0, float("nan"))}], 0)
 
     def test_heights_are_dropped_if_asked(self):
         for given, rows in [
-            ({"type": "Point", "coordinates": (2, 1, 7)}, "0,point,,0,AC/"), ({"type": "Point", "coordinates": ()}, "0,point,,0,/"),
+            ({"type": "Point", "coordinates": (2, 1, 7)}, "0,point,,0,AC/"),
+            ({"type": "Point", "coordinates": ()}, "0,point,,0,/"),
             ({"type": "LineString", "coordinates": [(1, 1, 9), (5, 5), (5, 5, 1, 2)]}, "0,linestring,,0,AAGG??/"),
         ]:
             self.assertEqual(polytwkb.pack_geometries([None, given], 0, heights="drop"), table_of(rows))
@@ -94,15 +128,23 @@ class Mappings(unittest.TestCase):
             polytwkb.pack_geometries({"type": "Point", "coordinates": (2,)}, 0, heights="drop")
 
     def test_ids_are_left_out(self):
-        given = {"type": "GeometryCollection", "geometries": [{"type": "MultiPoint", "coordinates": [(2, 1)], "ids": [9]}], "ids": [3]}
-        self.assertEqual(polytwkb.pack_geometries(given, 0), table_of("0,collection,,0,/1,multipoint,3,0,/2,point,9,,AC/"))
-        self.assertEqual(polytwkb.pack_geometries(given, 0, ids=False), table_of("0,collection,,0,/1,multipoint,,0,/2,point,,,AC/"))
+        given = {
+            "type": "GeometryCollection",
+            "geometries": [{"type": "MultiPoint", "coordinates": [(2, 1)], "ids": [9]}],
+            "ids": [3],
+        }
+        self.assertEqual(
+            polytwkb.pack_geometries(given, 0), table_of("0,collection,,0,/1,multipoint,3,0,/2,point,9,,AC/")
+        )
+        self.assertEqual(
+            polytwkb.pack_geometries(given, 0, ids=False), table_of("0,collection,,0,/1,multipoint,,0,/2,point,,,AC/")
+        )
 
     def test_coordinates_are_rounded_as_encode_rounds(self):
         points = [(0.000005, -0.000005), (2.5, 1.000015), (Decimal("0.000025"), 7), (-179.9832104, 0)] * 50
         for given in (points, points[:1]):
             line = polytwkb.pack_geometries({"type": "LineString", "coordinates": given}, 5)
-            self.assertEqual(line, table_of(f"0,linestring,,5,{polytwkb.encode(given, 5)}/"))
+            self.assertEqual(line, table_of(f"0,linestring,,5,{polytwkb.encode(given, precision=5)}/"))
 
     def test_what_is_refused(self):
         deep = {"type": "Point", "coordinates": ()}
@@ -112,7 +154,9 @@ class Mappings(unittest.TestCase):
         circle["geometries"] = [circle, circle]
         many = {"type": "LineString", "coordinates": [(0, 0)] * 6}
         for given, text in [
-            (deep, "nested too deep"), (circle, "nested too deep"), (many, "too many points"),
+            (deep, "nested too deep"),
+            (circle, "nested too deep"),
+            (many, "too many points"),
             ({"type": "MultiPoint", "coordinates": [(1, 2), ()]}, "wrong number of points"),
             ({"type": "Point", "coordinates": (1, 1e30)}, "coordinate out of range"),
             ({"type": "Point", "coordinates": (1 << 62, 1)}, "coordinate out of range"),
@@ -129,7 +173,8 @@ class Mappings(unittest.TestCase):
         """In 32 collections, the most that a limit takes, a geometry has all parts, and the one after it is packed."""
         limits = polytwkb.Limits(nest=32)
         for rows in [
-            "{0},multipoint,,0,/{1},point,,,AC/{1},point,,,GE/", "{0},polygon,,0,/{1},ring,,,AAGG/{1},ring,,,AC/",
+            "{0},multipoint,,0,/{1},point,,,AC/{1},point,,,GE/",
+            "{0},polygon,,0,/{1},ring,,,AAGG/{1},ring,,,AC/",
             "{0},multipolygon,,0,/{1},polygon,,,/{2},ring,,,AC/{2},ring,,,GE/{1},polygon,,,/{2},ring,,,AC/",
         ]:
             (mapping,) = polytwkb.geometries(table_of(rows.format(0, 1, 2)))
@@ -147,26 +192,45 @@ class Mappings(unittest.TestCase):
             with self.subTest(given=given), self.assertRaisesRegex(raised, "^geometry 1: "):
                 polytwkb.pack_geometries([RIGHT, given], 5)
         for given in [
-            (None, 5), (7, 5), ("ab", 5), (b"ab", 5), (RIGHT, None), (RIGHT, 1.5), (RIGHT, 5, 0), (RIGHT, 5, "full", True, 5),
-            (RIGHT, 5, "full", True, None, None),
+            (None, 5),
+            (7, 5),
+            ("ab", 5),
+            (b"ab", 5),
+            (RIGHT, None),
+            (RIGHT, 1.5),
+            (RIGHT, 5, {"style": 0}),
+            (RIGHT, 5, {"limits": 5}),
+            (RIGHT, 5, {"heights": None}),
             ({"type": "FeatureCollection"}, 5),
         ]:
             with self.subTest(given=given), self.assertRaises(TypeError):
-                polytwkb.pack_geometries(*given)
-        for given in [(RIGHT, 8), (RIGHT, -9), (RIGHT, 5, "Full"), ({"type": "Line"}, 5), (RIGHT, 5, "full", True, None, "Drop")]:
+                polytwkb.pack_geometries(*given[:2], **(given[2] if given[2:] else {}))
+        for given in [
+            (RIGHT, 8),
+            (RIGHT, -9),
+            (RIGHT, 5, {"style": "Full"}),
+            ({"type": "Line"}, 5),
+            (RIGHT, 5, {"heights": "Drop"}),
+        ]:
             with self.subTest(given=given), self.assertRaises(ValueError):
-                polytwkb.pack_geometries(*given)
+                polytwkb.pack_geometries(*given[:2], **(given[2] if given[2:] else {}))
 
 
 WKT = [
-    ("POINT (7.44781 46.94797)", "0,point,,5,yop}Gysml@/"), ("POINT EMPTY", "0,point,,5,/"),
+    ("POINT (7.44781 46.94797)", "0,point,,5,yop}Gysml@/"),
+    ("POINT EMPTY", "0,point,,5,/"),
     ("LINESTRING (0.00001 0.00001, 0.00005 0.00005)", "0,linestring,,5,AAGG/"),
-    ("POLYGON EMPTY", "0,polygon,,5,/"), ("MULTIPOINT (0.00002 0.00001, 0.00003 0.00004)", "0,multipoint,,5,/1,point,,,AC/1,point,,,GE/"),
+    ("POLYGON EMPTY", "0,polygon,,5,/"),
+    ("MULTIPOINT (0.00002 0.00001, 0.00003 0.00004)", "0,multipoint,,5,/1,point,,,AC/1,point,,,GE/"),
     ("MULTILINESTRING ((0 0, 0.00005 0.00005))", "0,multilinestring,,5,/1,linestring,,,??II/"),
-    ("POLYGON ((0 0, 0.0006 0, 0.0006 0.0004, 0 0.0004, 0 0), (0.0002 0.0001, 0.0002 0.0003, 0.0004 0.0003, 0.0004 0.0001, 0.0002 0.0001))",
-     "0,polygon,,5,/1,ring,,,???wBoA??vBnA?/1,ring,,,Sg@g@??g@f@??f@/"),
-    ("GEOMETRYCOLLECTION (POINT (0.00002 0.00001), POINT EMPTY, GEOMETRYCOLLECTION EMPTY)",
-     "0,collection,,5,/1,point,,5,AC/1,point,,5,/1,collection,,5,/"),
+    (
+        "POLYGON ((0 0, 0.0006 0, 0.0006 0.0004, 0 0.0004, 0 0), (0.0002 0.0001, 0.0002 0.0003, 0.0004 0.0003, 0.0004 0.0001, 0.0002 0.0001))",
+        "0,polygon,,5,/1,ring,,,???wBoA??vBnA?/1,ring,,,Sg@g@??g@f@??f@/",
+    ),
+    (
+        "GEOMETRYCOLLECTION (POINT (0.00002 0.00001), POINT EMPTY, GEOMETRYCOLLECTION EMPTY)",
+        "0,collection,,5,/1,point,,5,AC/1,point,,5,/1,collection,,5,/",
+    ),
 ]
 
 
@@ -187,7 +251,10 @@ class Shapely(unittest.TestCase):
         for given in ([line], [line, RIGHT]):
             wanted = [flat, RIGHT][: len(given)]
             self.assertEqual(polytwkb.pack_geometries(given, 5, heights="drop"), polytwkb.pack_geometries(wanted, 5))
-        self.assertEqual(polytwkb.pack_geometries([line, wkt.loads("POINT EMPTY")], 5, heights="drop").blobs[1], table_of("0,point,,5,/"))
+        self.assertEqual(
+            polytwkb.pack_geometries([line, wkt.loads("POINT EMPTY")], 5, heights="drop").blobs[1],
+            table_of("0,point,,5,/"),
+        )
 
     def test_shapes_go_as_mappings_do(self):
         """By way of WKB and by way of mappings, with gaps."""
@@ -224,10 +291,14 @@ class Shapely(unittest.TestCase):
 
         shapes = [None, wkt.loads("POINT Z EMPTY"), *[wkt.loads(text) for text, _ in WKT]]
         wanted = polytwkb.pack_geometries(shapes, 5)
-        with mock.patch.multiple(shapely, create=True, from_wkb=lambda given: list(map(wkb.loads, given)), to_wkb=to_wkb):
+        with mock.patch.multiple(
+            shapely, create=True, from_wkb=lambda given: list(map(wkb.loads, given)), to_wkb=to_wkb
+        ):
             packed = polytwkb.pack_geometries(shapes, 5)
             found = polytwkb.shapes(packed.blobs)
-        self.assertEqual((packed.blobs, [one.wkt for one in found[2:]]), (wanted.blobs, [one.wkt for one in shapes[2:]]))
+        self.assertEqual(
+            (packed.blobs, [one.wkt for one in found[2:]]), (wanted.blobs, [one.wkt for one in shapes[2:]])
+        )
 
     def test_shapes_that_shapely_does_not_take(self):
         blobs = [table_of(rows) for rows in ("0,point,,5,AC/", "0,linestring,,5,AC/", "0,linestring,,5,AAGG/")]
@@ -257,7 +328,9 @@ class GeoPandas(unittest.TestCase):
     def test_columns(self):
         chosen = [(text, rows) for text, rows in WKT if not text.startswith("MULTI")]
         wanted = table_of("".join(rows for _, rows in chosen))
-        column = geopandas.GeoSeries([wkt.loads(text) for text, _ in chosen], index=[f"row {place}" for place in range(len(chosen))])
+        column = geopandas.GeoSeries(
+            [wkt.loads(text) for text, _ in chosen], index=[f"row {place}" for place in range(len(chosen))]
+        )
         frame = geopandas.GeoDataFrame({"name": range(len(chosen))}, geometry=column.values)
         for given in (column, frame, frame.geometry, list(column)):
             self.assertEqual(polytwkb.pack_geometries(given, 5), wanted)
@@ -265,7 +338,9 @@ class GeoPandas(unittest.TestCase):
         self.assertEqual(polytwkb.geometries(frame["blob"]), polytwkb.geometries(wanted))
 
     def test_the_index_and_gaps_are_kept(self):
-        frame = geopandas.GeoDataFrame(geometry=[wkt.loads("POINT (1 2)"), None, wkt.loads("POINT (3 4)"), wkt.loads("POINT (5 6)")])[::-2]
+        frame = geopandas.GeoDataFrame(
+            geometry=[wkt.loads("POINT (1 2)"), None, wkt.loads("POINT (3 4)"), wkt.loads("POINT (5 6)")]
+        )[::-2]
         frame["blob"] = polytwkb.pack_geometries(frame.geometry, 5).blobs
         frame["back"] = geopandas.GeoSeries(polytwkb.shapes(frame["blob"]), index=frame.index)
         self.assertEqual((list(frame.index), list(frame["blob"].isna())), ([3, 1], [False, True]))

@@ -29,19 +29,21 @@ class Runs(unittest.TestCase):
         count = 0
         for command, options, given, printed in vectors.runs():
             with self.subTest(command=command, options=options, given=given):
-                limits, style = polytwkb.Limits(), "full"
+                limits, style, unpack = polytwkb.Limits(), "full", polytwkb.unpack
                 for option, value in options:
                     if option == "max-nest":
                         limits = limits._replace(nest=int(value))
+                    elif option == "geojson":
+                        unpack = polytwkb.to_geojson
                     else:
                         style = value
                 if command == "pack":
-                    output, line = outcome(polytwkb.pack, given, style, limits)
+                    output, line = outcome(polytwkb.pack, given, style=style, limits=limits)
                     output = output.hex()
                 elif command == "unpack":
-                    output, line = outcome(polytwkb.unpack, given, limits)
+                    output, line = outcome(unpack, given, limits=limits)
                 else:
-                    output, line = outcome(polytwkb.show, given, limits)
+                    output, line = outcome(polytwkb.show, given, limits=limits)
                     output = shown(output)
                 self.assertEqual((output.replace("\n", "/"), line), printed)
                 count += 1
@@ -77,18 +79,18 @@ class Tables(unittest.TestCase):
         self.assertGreater(len(rows), 60)
         for style, given, limits, done, expected in rows:
             with self.subTest(style=style, given=given, limits=limits):
-                output, refusal = outcome(polytwkb.pack, vectors.table_of(given), style, limits)
+                output, refusal = outcome(polytwkb.pack, vectors.table_of(given), style=style, limits=limits)
                 self.assertEqual((output.hex(), refusal), expected)
                 if not refusal:
-                    self.assertEqual(polytwkb.unpack(output, limits), vectors.table_of(given))
-                    self.assertEqual(len(polytwkb.split(output, limits)), done)
+                    self.assertEqual(polytwkb.unpack(output, limits=limits), vectors.table_of(given))
+                    self.assertEqual(len(polytwkb.split(output, limits=limits)), done)
 
     def test_streams(self):
         rows = list(rows_within("streams", "unpack"))
         self.assertGreater(len(rows), 60)
         for _, given, limits, _, expected in rows:
             with self.subTest(given=given, limits=limits):
-                output, refusal = outcome(polytwkb.unpack, bytes.fromhex(given), limits)
+                output, refusal = outcome(polytwkb.unpack, bytes.fromhex(given), limits=limits)
                 self.assertEqual((output.replace("\n", "/"), refusal), expected)
 
 
@@ -101,17 +103,21 @@ class Postgis(unittest.TestCase):
                 table = vectors.HEADER + "".join(row + "\n" for row in vector["rows"])
                 self.assertEqual(polytwkb.unpack(bytes.fromhex(vector["hex"])), table)
                 self.assertEqual(polytwkb.pack(table).hex(), vector.get("full", vector["hex"]))
-                self.assertEqual(polytwkb.pack(table, "plain").hex(), vector.get("plain", vector["hex"]))
+                self.assertEqual(polytwkb.pack(table, style="plain").hex(), vector.get("plain", vector["hex"]))
 
     def test_a_stream_is_split_into_its_blobs(self):
         blobs = [bytes.fromhex(vector["hex"]) for vector in vectors.postgis()]
         stream = b"".join(blobs)
         self.assertEqual(polytwkb.split(stream), blobs)
-        self.assertEqual([header.offset for header in polytwkb.show(stream) if header.level == 0],
-                         [sum(map(len, blobs[:place])) for place in range(len(blobs))])
+        self.assertEqual(
+            [header.offset for header in polytwkb.show(stream) if header.level == 0],
+            [sum(map(len, blobs[:place])) for place in range(len(blobs))],
+        )
         with self.assertRaises(polytwkb.Refused) as caught:
             polytwkb.split(stream + b"\x08")
-        self.assertEqual((caught.exception.output, caught.exception.done, caught.exception.place), (blobs, len(blobs), len(stream)))
+        self.assertEqual(
+            (caught.exception.output, caught.exception.done, caught.exception.place), (blobs, len(blobs), len(stream))
+        )
 
 
 class Polylines(unittest.TestCase):
@@ -122,7 +128,9 @@ class Polylines(unittest.TestCase):
         for text, points, refusal in vectors.polylines():
             with self.subTest(text=text):
                 self.assertEqual(outcome(polytwkb.decode, text), (points, refusal))
-                self.assertEqual(outcome(polytwkb.decode_flat, text)[0].tolist(), [number for point in points for number in point])
+                self.assertEqual(
+                    outcome(polytwkb.decode_flat, text)[0].tolist(), [number for point in points for number in point]
+                )
                 if not refusal:
                     self.assertEqual(polytwkb.encode(points).encode(), text)
                 count += 1

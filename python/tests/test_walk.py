@@ -144,8 +144,10 @@ class Walked(unittest.TestCase):
         chance = random.Random(4)
         few = [wkb(Kind.POLYGON, ring(chance, 4), ring(chance, 4)) for _ in range(100)]
         for many in (
-            wkb(Kind.POLYGON, *[ring(chance, 4)] * 5000), wkb(Kind.MULTIPOINT, *[some(chance, Kind.POINT)] * 5000),
-            wkb(Kind.MULTIPOLYGON, *few * 20), wkb(Kind.COLLECTION, *few * 20),
+            wkb(Kind.POLYGON, *[ring(chance, 4)] * 5000),
+            wkb(Kind.MULTIPOINT, *[some(chance, Kind.POINT)] * 5000),
+            wkb(Kind.MULTIPOLYGON, *few * 20),
+            wkb(Kind.COLLECTION, *few * 20),
         ):
             for wkbs in ([many], [*few, many, *few, many]):
                 with mock.patch.object(_walk._Walk, "step", autospec=True, side_effect=_walk._Walk.step) as step:

@@ -27,15 +27,20 @@ def table_of(rows):
 
 
 def runs():
-    """The command, its options, the input, and the output and the line of each run of pack, unpack and show."""
+    """The command, its options (of a flag the value is empty), the input, and the output and the line of each run of pack, unpack and show."""
     for line, printed in rows_of("runs"):
-        run = re.fullmatch(r"run polytwkb (pack|unpack|show)((?: --(?:max-nest|style)[ =]\w+)*) < (rows|hex) ?(.*)", line)
+        run = re.fullmatch(
+            r"run polytwkb (pack|unpack|show)((?: --(?:max-nest|style)[ =]\w+| --geojson)*) < (rows|hex) ?(.*)", line
+        )
         if not run or printed[0] not in ("status 0", "status 1"):
             continue
         command, words, form, given = run.groups()
         given = table_of(given) if form == "rows" else bytes.fromhex(given)
         output, errors = printed[1][len("output") :].lstrip(), printed[2][len("errors") :]
-        yield command, re.findall(r"--(\S+)[ =](\w+)", words), given, (output, errors.replace(" polytwkb: ", "").rstrip("/"))
+        yield command, re.findall(r"--([a-z-]+)(?:[ =](\w+))?", words), given, (
+            output,
+            errors.replace(" polytwkb: ", "").rstrip("/"),
+        )
 
 
 def polylines():
@@ -48,7 +53,9 @@ def polylines():
         if fault and fault.group(1) == "too many points":
             continue
         refusal = f"polyline at {fault.group(2)}: {fault.group(1)}" if fault else ""
-        yield bytes.fromhex(text) if word == "polyline_of_bytes" else text.encode(), list(zip(numbers[::2], numbers[1::2])), refusal
+        yield bytes.fromhex(text) if word == "polyline_of_bytes" else text.encode(), list(
+            zip(numbers[::2], numbers[1::2])
+        ), refusal
 
 
 def lines_of(name):
