@@ -1,5 +1,5 @@
 /** Paths of SVG for what a view shows of the shapes: no more than its pixels can tell. */
-import { DOT, RING } from './shapes.js';
+import {DOT, RING} from './shapes.js';
 
 const MOST_VERTICES = 100000;
 const MOST_AREAS = 3000;
@@ -8,15 +8,18 @@ const FAR = 20000; // pixels: what lies farther outside is drawn there
 const CELL = 3; // pixels: one dot is drawn for all in such a square
 const LONGEST = 20000; // letters of a path: a browser takes far more than twice the time for twice as many
 
+/** A number of pixels that is no farther outside than that. */
+const inside = pixels => pixels > FAR ? FAR : pixels < -FAR ? -FAR : pixels;
+
 /** A view: x and y of its upper left corner, pixels for a unit, and its size in pixels. */
 class Pen {
-    constructor({ left, top, scale, width, height }, step) {
-        Object.assign(this, { left, top, scale, width, height, step, vertices: 0, cells: new Set() });
+    constructor({left, top, scale, width, height}, step) {
+        Object.assign(this, {left, top, scale, width, height, step, vertices: 0, cells: new Set()});
     }
 
-    across(x) { return Math.max(-FAR, Math.min(FAR, (x - this.left) * this.scale)); }
+    across(x) { return inside((x - this.left) * this.scale); }
 
-    down(y) { return Math.max(-FAR, Math.min(FAR, (this.top - y) * this.scale)); }
+    down(y) { return inside((this.top - y) * this.scale); }
 
     /** A dot, if none is drawn near it. */
     dot(x, y) {
@@ -31,54 +34,49 @@ class Pen {
 
     /** A line through some points, without those that come too near to the one before. */
     line(shapes, from, to) {
-        const { step } = this, xs = shapes.xs.all, ys = shapes.ys.all;
+        const {step, left, top, scale} = this, xs = shapes.xs.all, ys = shapes.ys.all, half = step / 2;
         let path = '', lastAcross = NaN, lastDown = NaN;
         for (let point = from; point < to; point++) {
-            const across = Math.round(this.across(xs[point]) / step) * step;
-            const down = Math.round(this.down(ys[point]) / step) * step;
+            const right = (xs[point] - left) * scale, below = (top - ys[point]) * scale;
+            // mostly it is nearer than half a step, and no rounding tells more
+            if (Math.abs(right - lastAcross) < half && Math.abs(below - lastDown) < half) continue;
+            const across = Math.round(inside(right) / step) * step, down = Math.round(inside(below) / step) * step;
             if (across === lastAcross && down === lastDown) continue;
             path += `${path ? 'L' : 'M'}${across} ${down}`;
-            [lastAcross, lastDown] = [across, down];
+            lastAcross = across;
+            lastDown = down;
             this.vertices++;
         }
         return path && !path.includes('L') ? `${path}h0` : path;
     }
 }
 
-/** The box of some points in pixels, and whether the view meets it. */
-function boxOf(pen, shapes, from, to) {
-    const xs = shapes.xs.all, ys = shapes.ys.all;
-    let [left, right, top, bottom] = [Infinity, -Infinity, Infinity, -Infinity];
-    for (let point = from; point < to; point++) {
-        const across = pen.across(xs[point]), down = pen.down(ys[point]);
-        if (across < left) left = across;
-        if (across > right) right = across;
-        if (down < top) top = down;
-        if (down > bottom) bottom = down;
-    }
+/** The box of a line or a ring in pixels, and whether the view meets it. */
+function boxOf(pen, shapes, part) {
+    const sides = shapes.boxes.all, at = shapes.boxed.all[part];
+    const left = pen.across(sides[at]), right = pen.across(sides[at + 1]);
+    const bottom = pen.down(sides[at + 2]), top = pen.down(sides[at + 3]);
     const seen = right >= 0 && bottom >= 0 && left <= pen.width && top <= pen.height;
-    return { seen, size: Math.max(right - left, bottom - top) };
+    return {seen, size: Math.max(right - left, bottom - top)};
 }
 
 /** What is drawn of the parts from one on, up to another. */
 class Drawn {
-    constructor(pen, shapes) {
-        Object.assign(this, { pen, shapes, areas: [], lines: [], dots: [], small: [] });
-    }
+    constructor(pen, shapes) { Object.assign(this, {pen, shapes, areas: [], lines: [], dots: [], small: []}); }
 
     part(part) {
-        const { pen, shapes } = this, from = shapes.starts.all[part], to = shapes.end(part);
+        const {pen, shapes} = this, from = shapes.starts.all[part], to = shapes.end(part);
         if (from === to) return;
         if (shapes.kinds.all[part] === DOT) this.dots.push(pen.dot(shapes.xs.all[from], shapes.ys.all[from]));
-        else if (boxOf(pen, shapes, from, to).seen) this.lines.push(pen.line(shapes, from, to));
+        else if (boxOf(pen, shapes, part).seen) this.lines.push(pen.line(shapes, from, to));
     }
 
     /** The rings of an area, of which this part is the first; the part after them. */
     area(first, last) {
-        const { pen, shapes } = this, area = shapes.areas.all[first];
+        const {pen, shapes} = this, area = shapes.areas.all[first];
         let end = first + 1;
         while (end < last && shapes.kinds.all[end] === RING && shapes.areas.all[end] === area) end++;
-        const from = shapes.starts.all[first], { seen, size } = boxOf(pen, shapes, from, shapes.end(first));
+        const from = shapes.starts.all[first], {seen, size} = boxOf(pen, shapes, first);
         if (!seen || from === shapes.end(first)) return end;
         if (size < SMALL || this.areas.length === MOST_AREAS) {
             this.small.push(pen.dot(shapes.xs.all[from], shapes.ys.all[from]));
@@ -93,7 +91,7 @@ class Drawn {
     }
 
     parts(first, last) {
-        const { kinds } = this.shapes;
+        const {kinds} = this.shapes;
         for (let part = first; part < last && this.pen.vertices <= MOST_VERTICES;) {
             if (kinds.all[part] === RING) part = this.area(part, last);
             else this.part(part++);
@@ -122,12 +120,12 @@ function pathsOf(parts) {
 
 /** The paths of some parts, by a step that keeps them within what a browser draws at once. */
 export function drawn(shapes, view, first = 0, last = shapes.starts.length) {
-    for (let step = 0.5; ; step *= 2) {
+    for (let step = 0.5;; step *= 2) {
         const pen = new Pen(view, step), made = new Drawn(pen, shapes);
         made.parts(first, last);
         if (pen.vertices > MOST_VERTICES && step < 16) continue;
-        const { areas, lines, dots, small } = made;
-        return { areas, lines: pathsOf(lines), dots: pathsOf(dots), small: pathsOf(small) };
+        const {areas, lines, dots, small} = made;
+        return {areas, lines: pathsOf(lines), dots: pathsOf(dots), small: pathsOf(small)};
     }
 }
 

@@ -6,9 +6,9 @@ const TALLEST = 8e6; // pixels that browsers let a box scroll over
 export class Lines {
     /** `draw(line, element)` fills the element of a line. */
     constructor(box, draw) {
-        Object.assign(this, { box, draw, count: 0, shown: new Map() });
+        Object.assign(this, {box, draw, count: 0, shown: new Map()});
         this.space = document.createElement('i');
-        Object.assign(this.space.style, { position: 'absolute', top: 0, width: '1px' });
+        Object.assign(this.space.style, {position: 'absolute', top: 0, width: '1px'});
         box.append(this.space);
         box.addEventListener('scroll', () => this.paint());
         new ResizeObserver(() => this.paint()).observe(box);
@@ -37,7 +37,7 @@ export class Lines {
 
     /** Brings a line into sight. */
     show(line) {
-        const { box, ratio } = this, top = line * HEIGHT, above = box.scrollTop * ratio;
+        const {box, ratio} = this, top = line * HEIGHT, above = box.scrollTop * ratio;
         if (top < above || top + HEIGHT > above + box.clientHeight) {
             box.scrollTop = (top - box.clientHeight / 3) / ratio;
         }
@@ -46,7 +46,7 @@ export class Lines {
     }
 
     paint() {
-        const { box, shown, ratio } = this, above = box.scrollTop * ratio;
+        const {box, shown, ratio} = this, above = box.scrollTop * ratio;
         const first = Math.max(0, Math.floor(above / HEIGHT) - 5);
         const last = Math.min(this.count, Math.ceil((above + box.clientHeight) / HEIGHT) + 5);
         for (const [line, element] of shown) {

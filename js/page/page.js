@@ -1,6 +1,6 @@
 /** The page: what is opened, and how its picture, headers, table and bytes lead to one another. */
-import { Lines } from './lines.js';
-import { Picture } from './picture.js';
+import {Lines} from './lines.js';
+import {Picture} from './picture.js';
 
 const at = id => document.getElementById(id);
 const KINDS = ['point', 'linestring', 'polygon', 'multipoint', 'multilinestring', 'multipolygon', 'collection'];
@@ -9,15 +9,15 @@ const [WIDTH, LONGEST] = [16, 400]; // bytes in a line, and of a row that are sh
 
 // ---- the worker
 
-const worker = new Worker(new URL('./worker.js', import.meta.url), { type: 'module' });
+const worker = new Worker(new URL('./worker.js', import.meta.url), {type: 'module'});
 const asked = new Map();
 
-worker.onmessage = ({ data: { id, value, fault, progress } }) => {
+worker.onmessage = ({data: {id, value, fault, progress}}) => {
     if (progress !== undefined) {
         at('sizes').textContent = `${grouped(progress)} bytes`;
         return;
     }
-    const { resolve, reject } = asked.get(id);
+    const {resolve, reject} = asked.get(id);
     asked.delete(id);
     if (fault) reject(new Error(fault));
     else resolve(value);
@@ -26,8 +26,8 @@ worker.onmessage = ({ data: { id, value, fault, progress } }) => {
 function ask(call, ...given) {
     const id = crypto.getRandomValues(new Uint32Array(1))[0];
     return new Promise((resolve, reject) => {
-        asked.set(id, { resolve, reject });
-        worker.postMessage({ id, call, given });
+        asked.set(id, {resolve, reject});
+        worker.postMessage({id, call, given});
     });
 }
 
@@ -44,7 +44,7 @@ const isTable = bytes => new TextDecoder().decode(bytes.subarray(0, 9)).replace(
 function bytesOfHex(text) {
     const digits = text.replace(/\\x|0x|[\s,:]/gi, '');
     if (!digits || digits.length % 2 || /[^0-9a-f]/i.test(digits)) return null;
-    return Uint8Array.from({ length: digits.length / 2 }, (_, place) => parseInt(digits.substr(2 * place, 2), 16));
+    return Uint8Array.from({length: digits.length / 2}, (_, place) => parseInt(digits.substr(2 * place, 2), 16));
 }
 
 /** Shows a table and its fault as soon as it is packed, and the rest when its stream is read. */
@@ -52,11 +52,11 @@ async function open(given) {
     const turn = ++turns, isLast = () => turn === turns; // none was opened meanwhile
     at('refused').hidden = true;
     try {
-        const first = isTable(given) ? { ...await ask('pack', given), table: given } : { bytes: given };
+        const first = isTable(given) ? {...await ask('pack', given), table: given} : {bytes: given};
         if (!isLast()) return;
         showFirst(first);
-        const rest = await ask('read', first.bytes);
-        if (isLast()) showRest({ ...rest, ...first }, !first.table);
+        const rest = await ask('read', first.bytes, Boolean(first.table));
+        if (isLast()) showRest({...rest, ...first}, !first.table);
     } catch (fault) {
         if (isLast()) tell(fault.message);
     }
@@ -82,12 +82,12 @@ function showRest(all, isStream) {
     tellSizes();
     tellKinds();
     picture.fit(opened.bounds);
-    document.dispatchEvent(new CustomEvent('opened', { detail: opened }));
+    document.dispatchEvent(new CustomEvent('opened', {detail: opened}));
 }
 
 /** Shows the table, if it is there, and the fault. */
 function showTable() {
-    const { lines = [], fault } = opened;
+    const {lines = [], fault} = opened;
     opened.wrongLine = fault?.isRecord ? lineOfRecord(fault.place) : -1;
     lists.table.reset(lines.length);
     if (fault) tellFault();
@@ -99,22 +99,22 @@ function tell(text) {
 }
 
 function tellFault() {
-    const { message, code, done } = opened.fault;
+    const {message, code, done} = opened.fault;
     const before = `${grouped(done)} geometr${done === 1 ? 'y' : 'ies'}`;
     tell(`Refused: ${message} (${code}). Shown is what is before it: ${before}.`);
     showFault();
-    document.dispatchEvent(new CustomEvent('refused', { detail: opened.fault }));
+    document.dispatchEvent(new CustomEvent('refused', {detail: opened.fault}));
 }
 
 function showFault() {
-    const { fault } = opened;
+    const {fault} = opened;
     if (fault.isRecord) lists.table.show(opened.wrongLine);
     else lists.bytes.show(Math.floor(fault.place / WIDTH));
 }
 
 /** The line of a record, from 1: blank lines are no records. It looks at each line, so it is asked once a table. */
 function lineOfRecord(record) {
-    const { table: bytes, lines } = opened;
+    const {table: bytes, lines} = opened;
     let line = 0;
     for (let seen = 0; line < lines.length; line++) {
         const end = line + 1 < lines.length ? lines[line + 1] : bytes.length;
@@ -126,7 +126,7 @@ function lineOfRecord(record) {
 }
 
 function tellSizes() {
-    const { points, table: text, full, plain } = opened.sizes;
+    const {points, table: text, full, plain} = opened.sizes;
     at('sizes').textContent = `table ${grouped(text)} bytes, full ${grouped(full)}, plain ${grouped(plain)}, ` +
         `${grouped(points)} points`;
 }
@@ -148,11 +148,15 @@ function textOf(bytes, lines, line) {
 }
 
 function drawHeader(header, element) {
-    const { offset, kind, precision, metadata, length, points, level } = opened.headers;
+    const {offset, kind, precision, metadata, length, points, level} = opened.headers;
     const bits = BITS.filter((_, bit) => metadata[header] & (1 << bit)).join(' ') || '-';
     const name = `${'  '.repeat(level[header])}${KINDS[kind[header]]}`, right = number => String(number).padStart(8);
     element.textContent = [
-        right(offset[header]), name.padEnd(18), right(precision[header]), bits.padEnd(12), right(length[header]),
+        right(offset[header]),
+        name.padEnd(18),
+        right(precision[header]),
+        bits.padEnd(12),
+        right(length[header]),
         right(points[header]),
     ].join('  ');
     element.classList.toggle('chosen', header === chosen);
@@ -160,7 +164,7 @@ function drawHeader(header, element) {
 }
 
 function drawRow(line, element) {
-    const { table: bytes, lines, wrongLine } = opened;
+    const {table: bytes, lines, wrongLine} = opened;
     element.textContent = textOf(bytes, lines, line).trimEnd();
     element.classList.toggle('wrong', line === wrongLine);
     element.classList.toggle('chosen', chosen !== null && line >= opened.rows[chosen] && line < rowAfter(chosen));
@@ -169,7 +173,7 @@ function drawRow(line, element) {
 const hexOf = byte => byte.toString(16).padStart(2, '0');
 
 function drawBytes(line, element) {
-    const { bytes, fault } = opened, start = line * WIDTH, place = document.createElement('span');
+    const {bytes, fault} = opened, start = line * WIDTH, place = document.createElement('span');
     place.className = 'offset';
     place.textContent = `${String(start).padStart(9)}  `;
     element.append(place);
@@ -191,7 +195,7 @@ const bytesOfHeader = header => {
 
 /** The next header that is no member of this one. */
 function nextOf(header) {
-    const { level } = opened.headers;
+    const {level} = opened.headers;
     let next = header + 1;
     while (next < level.length && level[next] > level[header]) next++;
     return next;
@@ -209,7 +213,7 @@ function choose(header) {
     lists.table.show(opened.rows[header]);
     lists.bytes.show(Math.floor(opened.headers.offset[header] / WIDTH));
     picture.mark(header, nextOf(header));
-    document.dispatchEvent(new CustomEvent('chosen', { detail: header }));
+    document.dispatchEvent(new CustomEvent('chosen', {detail: header}));
 }
 
 const lists = {
@@ -230,7 +234,7 @@ function opening(transfer) {
     else openText(transfer.getData('text'));
 }
 
-at('file').addEventListener('change', ({ target }) => target.files[0] && openFile(target.files[0]));
+at('file').addEventListener('change', ({target}) => target.files[0] && openFile(target.files[0]));
 at('example').addEventListener('click', () => openFrom('example.csv'));
 at('refused').addEventListener('click', showFault);
 document.addEventListener('paste', event => {

@@ -1,7 +1,7 @@
 /** What takes time, outside of the page's thread: conversions, pictures, looking for a place. */
 import * as polytwkb from '../polytwkb.js';
-import { drawn, partAt } from './drawing.js';
-import { Numbers, Shapes } from './shapes.js';
+import {drawn, partAt} from './drawing.js';
+import {Numbers, Shapes} from './shapes.js';
 
 const PIECE = 2 ** 18;
 const FIRST_LINE = new TextEncoder().encode('depth,kind,id,precision,polyline\n');
@@ -10,15 +10,15 @@ const KINDS = ['point', 'linestring', 'polygon', 'multipoint', 'multilinestring'
 
 let shapes = new Shapes();
 
-const refusalOf = ({ message, code, place, done }, isRecord) => ({ message, code, place, done, isRecord });
+const refusalOf = ({message, code, place, done}, isRecord) => ({message, code, place, done, isRecord});
 
 /** Runs a call; what it gives, or gave before it was refused. */
 function tried(call) {
     try {
-        return { output: call(), fault: null };
+        return {output: call(), fault: null};
     } catch (fault) {
         if (!(fault instanceof polytwkb.Refused)) throw fault;
-        return { output: fault.output, fault };
+        return {output: fault.output, fault};
     }
 }
 
@@ -26,8 +26,12 @@ function tried(call) {
 class Headers {
     constructor() {
         this.columns = {
-            offset: new Numbers(Float64Array), length: new Numbers(Uint32Array), points: new Numbers(Uint32Array),
-            level: new Numbers(Uint8Array), kind: new Numbers(Uint8Array), precision: new Numbers(Int8Array),
+            offset: new Numbers(Float64Array),
+            length: new Numbers(Uint32Array),
+            points: new Numbers(Uint32Array),
+            level: new Numbers(Uint8Array),
+            kind: new Numbers(Uint8Array),
+            precision: new Numbers(Int8Array),
             metadata: new Numbers(Uint8Array),
         };
         this.counts = {};
@@ -35,7 +39,7 @@ class Headers {
 
     /** Adds headers of blobs that begin at a byte of the stream. */
     add(headers, base) {
-        const { columns: { offset, length, points, level, kind, precision, metadata }, counts } = this;
+        const {columns: {offset, length, points, level, kind, precision, metadata}, counts} = this;
         for (const header of headers) {
             offset.push(base + header.offset);
             length.push(header.length);
@@ -55,9 +59,7 @@ class Headers {
 
 /** The bytes of a table that comes in parts. */
 class Text {
-    constructor() {
-        this.parts = [FIRST_LINE];
-    }
+    constructor() { this.parts = [FIRST_LINE]; }
 
     add(bytes) { this.parts.push(bytes.subarray(FIRST_LINE.length)); }
 
@@ -89,24 +91,28 @@ function* piecesOf(bytes) {
 
 /** Packs a table: its stream, where its lines begin, and its fault. */
 function pack(table) {
-    const { output: bytes, fault } = tried(() => polytwkb.pack(table));
-    return { bytes, lines: linesOf(table), fault: fault && refusalOf(fault, true) };
+    const {output: bytes, fault} = tried(() => polytwkb.pack(table));
+    return {bytes, lines: linesOf(table), fault: fault && refusalOf(fault, true)};
 }
 
-/** Reads a stream blob by blob: its shapes, its headers, its sizes in both styles, its table and its fault. */
-async function read(bytes) {
-    const headers = new Headers(), text = new Text(), sizes = { full: 0, plain: 0 };
+/**
+ * Reads a stream blob by blob: its shapes, its headers, its sizes in both styles, its table and its fault. If the stream
+ * was packed here, its size in the full style is its own.
+ */
+async function read(bytes, isPacked) {
+    const headers = new Headers(), text = new Text(), sizes = {full: 0, plain: 0};
     let base = 0, fault = null;
     shapes = new Shapes();
     try {
         for await (const blobs of polytwkb.stream(piecesOf(bytes))) {
             headers.add(polytwkb.show(blobs), base);
             shapes.add(polytwkb.read(blobs));
-            const units = polytwkb.read(blobs, { degrees: false });
-            for (const style of ['full', 'plain']) sizes[style] += polytwkb.write(units, { style }).length;
+            const units = polytwkb.read(blobs, {degrees: false});
+            sizes.full += isPacked ? blobs.length : polytwkb.write(units).length;
+            sizes.plain += polytwkb.write(units, {style: 'plain'}).length;
             text.add(polytwkb.unpackBytes(blobs));
             base += blobs.length;
-            postMessage({ progress: base });
+            postMessage({progress: base});
         }
     } catch (refused) {
         if (!(refused instanceof polytwkb.Refused)) throw refused;
@@ -114,14 +120,20 @@ async function read(bytes) {
     }
     const table = text.bytes;
     return {
-        table, lines: linesOf(table), fault, headers: headers.lists, counts: headers.counts, rows: shapes.rows.list,
-        sizes: { ...sizes, table: table.length, points: shapes.points }, bounds: shapes.bounds,
+        table,
+        lines: linesOf(table),
+        fault,
+        headers: headers.lists,
+        counts: headers.counts,
+        rows: shapes.rows.list,
+        sizes: {...sizes, table: table.length, points: shapes.points},
+        bounds: shapes.bounds,
     };
 }
 
 /** The parts of a header: those from its first to the first of the next header that is no member of it. */
 function partsOf(header, next) {
-    const { parts, starts } = shapes, last = next < parts.length ? parts.all[next] : starts.length;
+    const {parts, starts} = shapes, last = next < parts.length ? parts.all[next] : starts.length;
     return [parts.all[header], last];
 }
 
@@ -137,7 +149,8 @@ function headerOf(part) {
 }
 
 const calls = {
-    pack, read,
+    pack,
+    read,
     picture: view => drawn(shapes, view),
     chosen: (view, header, next) => drawn(shapes, view, ...partsOf(header, next)),
     headerAt(x, y, near) {
@@ -154,12 +167,12 @@ function buffersOf(value) {
 
 const loaded = polytwkb.load();
 
-onmessage = async ({ data: { id, call, given } }) => {
+onmessage = async ({data: {id, call, given}}) => {
     try {
         await loaded;
         const value = await calls[call](...given);
-        postMessage({ id, value }, buffersOf(value));
+        postMessage({id, value}, buffersOf(value));
     } catch (fault) {
-        postMessage({ id, fault: `${fault.name}: ${fault.message}` });
+        postMessage({id, fault: `${fault.name}: ${fault.message}`});
     }
 };

@@ -1,117 +1,92 @@
 /** Tables to streams, and streams to tables, headers and blobs. */
-import { bytesOf, limitsOf, styleOf, textOf } from './inputs.js';
-import { bytesAt, called, filled, reasonText } from './module.js';
-import { Status } from './reasons.js';
-import { Refused, whereOf } from './refused.js';
+import {bytesOf, limitsAmong, limitsOf, styleOf, textOf} from './inputs.js';
+import {bytesAt, called, filled, refusalOf} from './module.js';
+import {Status} from './reasons.js';
+
+// The numbers of the conversions, as in include/polytwkb.h.
+export const Conversion = {
+    PACK: 0,
+    UNPACK: 1,
+    SHOW: 2,
+    GEOJSON: 3,
+    HEADERS: 4,
+};
 
 const LARGE = 2 ** 24;
-const [LINE_FEED, SPACE, MINUS, ZERO, NINE] = [...'\n -09'].map(character => character.charCodeAt(0));
-const LETTER = 55; // from an upper-case letter to the value that it has in hexadecimal
+export const HEADER = 32; // bytes of a header
+const KINDS = ['', 'point', 'linestring', 'polygon', 'multipoint', 'multilinestring', 'multipolygon', 'collection'];
 
-const decoder = new TextDecoder();
+const decoder = new TextDecoder('utf-8', {ignoreBOM: true});
 
 /** What `result` makes of the bytes that a conversion writes; if the input is refused, of those before the fault. */
-export function converted(input, room, call, result) {
+function converted(conversion, input, room, result, limits, style = 0) {
     return called(wasm => {
-        const { report, base, start } = filled(input, room, 1, (from, to, most) => call(wasm, from, to, most));
-        const output = result(bytesAt(start, report.sent), base);
-        if (report.status === Status.REFUSED) {
-            throw new Refused(report.reason, reasonText(report.reason), whereOf(report), report, output);
-        }
+        const call = (from, to, most) => wasm.convert(conversion, from, input.length, to, most, ...limits, style);
+        const {report, start} = filled(input, room, 1, call);
+        const output = result(bytesAt(start, report.sent));
+        if (report.status === Status.REFUSED) throw refusalOf(report, output);
         return output;
     });
 }
 
-/** A first guess at the output of unpacking and showing. If it is too small, the work is done again. */
-export const roomOf = ({ length }) => (length < LARGE ? 7 : 3) * length + 64;
+/** A first guess at what is written for a stream: so many times as much. If it is too small, the work is done again. */
+const roomOf = ({length}, times) => (length < LARGE ? 7 : times) * length + 64;
 
 const copied = bytes => bytes.slice();
 
-export function spelled(bytes) {
+/** The string of bytes. If it would be too long, another call, if there is one, gives the bytes. */
+export function spelled(bytes, other = '') {
     try {
         return decoder.decode(bytes);
     } catch {
-        throw new RangeError(`polytwkb: ${bytes.length} bytes are too long for a string here: unpackBytes gives them`);
+        const tip = other && `: ${other} gives them`;
+        throw new RangeError(`polytwkb: ${bytes.length} bytes are too long for a string here${tip}`);
     }
 }
 
-export function pack(table, style = 'full', limits = undefined) {
-    const form = styleOf(style), most = limitsOf(limits), input = textOf(table, 'a table is a string or bytes');
-    const call = (wasm, from, to, room) => wasm.pack(from, input.length, to, room, ...most, form);
-    return converted(input, input.length + 64, call, copied);
+export function pack(table, options = {}) {
+    const most = limitsOf(limitsAmong(options, 'style')), form = styleOf(options);
+    const input = textOf(table, 'a table is a string or bytes');
+    return converted(Conversion.PACK, input, input.length + 64, copied, most, form);
 }
 
-function unpacked(blobs, limits, result) {
+/** What `result` makes of what is written for a stream: for a large one, so many times as much, by a first guess. */
+function listed(conversion, times, blobs, limits, result) {
     const most = limitsOf(limits), input = bytesOf(blobs, 'a stream of blobs is bytes');
-    const call = (wasm, from, to, room) => wasm.unpack(from, input.length, to, room, ...most);
-    return converted(input, roomOf(input), call, result);
+    return converted(conversion, input, roomOf(input, times), result, most);
 }
 
-export const unpack = (blobs, limits) => unpacked(blobs, limits, spelled);
+const textOr = other => bytes => spelled(bytes, other);
 
-export const unpackBytes = (blobs, limits) => unpacked(blobs, limits, copied);
+const listedTable = (blobs, limits, result) => listed(Conversion.UNPACK, 3, blobs, limits, result);
 
-/** What `result` makes of the lines that tell the headers of a stream. */
-export function shown(blobs, limits, result) {
-    const most = limitsOf(limits), input = bytesOf(blobs, 'a stream of blobs is bytes');
-    const call = (wasm, from, to, room) => wasm.show(from, input.length, to, room, ...most);
-    return converted(input, roomOf(input), call, result);
-}
+export const unpack = (blobs, limits) => listedTable(blobs, limits, textOr('unpackBytes'));
 
-/** Reads the fields of lines, one after the other. */
-class Fields {
-    constructor(bytes) {
-        this.bytes = bytes;
-        this.at = 0;
-    }
+export const unpackBytes = (blobs, limits) => listedTable(blobs, limits, copied);
 
-    get more() { return this.at < this.bytes.length; }
+const listedGeojson = (blobs, limits, result) => listed(Conversion.GEOJSON, 6, blobs, limits, result);
 
-    number() {
-        const { bytes } = this, negative = bytes[this.at] === MINUS;
-        let at = negative ? this.at + 1 : this.at, value = 0;
-        for (; bytes[at] > LINE_FEED && bytes[at] !== SPACE; at++) value = 10 * value + bytes[at] - ZERO;
-        this.at = at + 1;
-        return negative ? -value : value;
-    }
+export const toGeojson = (blobs, limits) => listedGeojson(blobs, limits, textOr('toGeojsonBytes'));
 
-    hexadecimal() {
-        const digit = byte => byte - (byte > NINE ? LETTER : ZERO);
-        const value = 16 * digit(this.bytes[this.at]) + digit(this.bytes[this.at + 1]);
-        this.at += 3;
-        return value;
-    }
+export const toGeojsonBytes = (blobs, limits) => listedGeojson(blobs, limits, copied);
 
-    kind() {
-        const start = this.at;
-        while (this.bytes[this.at] !== SPACE) this.at++;
-        return kindAt(this.bytes, start, this.at++ - start);
-    }
-}
-
-/** The word of a kind, by its length and its first letter. */
-export function kindAt(bytes, at, length) {
-    if (length === 5) return 'point';
-    if (length === 4) return 'ring';
-    if (length === 7) return 'polygon';
-    if (length === 12) return 'multipolygon';
-    if (length === 15) return 'multilinestring';
-    const letter = String.fromCharCode(bytes[at]);
-    return letter === 'l' ? 'linestring' : letter === 'm' ? 'multipoint' : 'collection';
-}
-
-function headerOf(fields) {
+/** The header at a place, as include/polytwkb.h has it. Streams in memory are shorter than 2^32 bytes. */
+function headerAt(view, at) {
     return {
-        level: fields.number(), offset: fields.number(), kind: fields.kind(), precision: fields.number(),
-        metadata: fields.hexadecimal(), length: fields.number(), points: fields.number(),
+        level: view.getUint32(at + 24, true),
+        offset: view.getUint32(at, true),
+        kind: KINDS[view.getUint8(at + 28)],
+        precision: view.getInt8(at + 29),
+        metadata: view.getUint8(at + 30),
+        length: view.getUint32(at + 8, true),
+        points: view.getUint32(at + 16, true),
     };
 }
 
-/** The headers that the lines of `show` tell. */
-export function headersOf(lines) {
-    const headers = [], fields = new Fields(lines);
-    while (fields.more) headers.push(headerOf(fields));
-    return headers;
+/** The headers that the module wrote. */
+function headersOf(bytes) {
+    const view = new DataView(bytes.buffer, bytes.byteOffset, bytes.length);
+    return Array.from({length: bytes.length / HEADER}, (_, place) => headerAt(view, HEADER * place));
 }
 
-export const show = (blobs, limits) => shown(blobs, limits, headersOf);
+export const show = (blobs, limits) => listed(Conversion.HEADERS, 3, blobs, limits, headersOf);

@@ -1,11 +1,18 @@
 /** Geometries for maps, in the form of GeoJSON. */
-import { NO_PRECISION, POINT_WORDS, ROW_WORDS, found } from './arrays.js';
-import { collectsOf, column, isList } from './column.js';
-import { degreesOf, limitsAmong } from './inputs.js';
-import { exactPointsAt, numberAt, pointsAt, scaleOf } from './rounding.js';
+import {NO_PRECISION, POINT_WORDS, ROW_WORDS} from './arrays.js';
+import {madeOf} from './column.js';
+import {degreesOf, limitsAmong} from './inputs.js';
+import {exactPointsAt, numberAt, pointsAt, scaleOf} from './rounding.js';
 
 const TYPES = [
-    '', 'Point', 'LineString', 'Polygon', 'MultiPoint', 'MultiLineString', 'MultiPolygon', 'GeometryCollection',
+    '',
+    'Point',
+    'LineString',
+    'Polygon',
+    'MultiPoint',
+    'MultiLineString',
+    'MultiPolygon',
+    'GeometryCollection',
 ];
 const [POINT, COLLECTION] = [1, 7];
 const HAS_POINTS = [false, true, true, false, false, false, false, false, true]; // by kind, up to a ring
@@ -26,7 +33,7 @@ class Tree {
     /** The coordinates of a row: its points, or the list that its members are put into. */
     coordinates(kind, count) {
         if (!HAS_POINTS[kind] || count === 0) return [];
-        const { rows: { words }, word, scale } = this;
+        const {rows: {words}, word, scale} = this;
         this.word += POINT_WORDS * count;
         if (!this.degrees) return kind === POINT ? exactPointsAt(words, word, 1)[0] : exactPointsAt(words, word, count);
         if (kind === POINT) return [numberAt(words, word, scale), numberAt(words, word + 2, scale)];
@@ -34,13 +41,13 @@ class Tree {
     }
 
     geometry(type, coordinates) {
-        const geometry = type === TYPES[COLLECTION] ? { type, geometries: coordinates } : { type, coordinates };
+        const geometry = type === TYPES[COLLECTION] ? {type, geometries: coordinates} : {type, coordinates};
         if (!this.degrees) geometry.precision = this.precision;
         return geometry;
     }
 
     put(row) {
-        const { rows, above, lists } = this, { words } = rows, word = rows.row + ROW_WORDS * row;
+        const {rows, above, lists} = this, {words} = rows, word = rows.row + ROW_WORDS * row;
         const count = words[word + 2], depth = words[word + 4], last = words[word + 5];
         const kind = last & 0xffff, own = last >> 24;
         if (own !== NO_PRECISION) {
@@ -63,10 +70,9 @@ function geometriesOf(rows, degrees) {
     return tree.found;
 }
 
+export const makingGeometries = degrees => rows => geometriesOf(rows, degrees);
+
 export function geometries(blobs, options = {}) {
-    const limits = limitsAmong(options, 'degrees', 'errors'), degrees = degreesOf(options), collects = collectsOf(options);
-    const made = rows => geometriesOf(rows, degrees);
-    if (isList(blobs)) return column(blobs, limits, made, collects);
-    if (collects) throw new TypeError('errors are collected of a list of blobs, and not of a stream');
-    return found(blobs, limits, made);
+    const limits = limitsAmong(options, 'degrees', 'errors');
+    return madeOf(blobs, options, limits, 'geometries', makingGeometries(degreesOf(options)));
 }

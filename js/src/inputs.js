@@ -1,8 +1,12 @@
 /** What callers pass: bytes, texts, limits, styles and precisions, checked. */
-import { kindOf } from './kinds.js';
-import { bytesAt } from './module.js';
+import {kindOf} from './kinds.js';
+import {bytesAt} from './module.js';
 
-const RANGES = { nest: [0, 32], nodes: [1, 2 ** 20], points: [0, 2 ** 24] };
+const RANGES = {
+    nest: [0, 32],
+    nodes: [1, 2 ** 20],
+    points: [0, 2 ** 24]
+};
 const LIMITS = Object.keys(RANGES);
 const STYLES = new Map([['full', 0], ['plain', 1]]);
 const SHORT = 64; // over so few bytes a loop of our own is faster than an encoder
@@ -18,13 +22,21 @@ export function checkOptions(given, ...names) {
     if (given instanceof Limits) return;
     checkObject(given, 'options');
     const unknown = Object.keys(given).find(name => !LIMITS.includes(name) && !names.includes(name));
-    if (unknown !== undefined) throw new TypeError(`there is no option ${unknown}: ${[...names, ...LIMITS].join(', ')}`);
+    if (unknown !== undefined)
+        throw new TypeError(`there is no option ${unknown}: ${[...names, ...LIMITS].join(', ')}`);
 }
 
 /** An option that is true or false. */
 export function flagOf(options, name, standard) {
-    const { [name]: given = standard } = options;
+    const {[name]: given = standard} = options;
     if (typeof given !== 'boolean') throw new TypeError(`${name} is true or false, not ${kindOf(given)}`);
+    return given;
+}
+
+/** An option that is one of some words, of which the first is standard. */
+export function wordOf(options, name, ...words) {
+    const {[name]: given = words[0]} = options;
+    if (!words.includes(given)) throw new RangeError(`${name} is '${words.join("' or '")}', not ${given}`);
     return given;
 }
 
@@ -36,7 +48,7 @@ export class Limits {
     /** @param {{ nest?: number, nodes?: number, points?: number }} limits */
     constructor(limits = {}) {
         checkOptions(limits);
-        const { nest = 16, nodes = 2 ** 20, points = 2 ** 24 } = limits;
+        const {nest = 16, nodes = 2 ** 20, points = 2 ** 24} = limits;
         this.nest = limit('nest', nest);
         this.nodes = limit('nodes', nodes);
         this.points = limit('points', points);
@@ -53,18 +65,19 @@ function limit(name, given) {
 
 /** Limits as arguments of the module. */
 export function limitsOf(limits) {
-    const { nest, nodes, points } = limits instanceof Limits ? limits : new Limits(limits);
+    const {nest, nodes, points} = limits instanceof Limits ? limits : new Limits(limits);
     return [nest, nodes, points];
 }
 
 /** The limits among options, of which others have these names. */
 export function limitsAmong(options, ...names) {
     checkOptions(options, ...names);
-    const { nest, nodes, points } = options;
-    return new Limits({ nest, nodes, points });
+    const {nest, nodes, points} = options;
+    return new Limits({nest, nodes, points});
 }
 
-export function styleOf(style) {
+/** The style among options, as the module has it. */
+export function styleOf({style = 'full'}) {
     if (typeof style !== 'string') throw new TypeError(`a style is a string, not ${kindOf(style)}`);
     const number = STYLES.get(style);
     if (number === undefined) throw new RangeError(`a style is 'full' or 'plain', not '${style}'`);
@@ -90,8 +103,8 @@ export function viewOf(given, what) {
 
 /** Bytes, to be copied into the module. No code of the caller's, such as a getter of limits, may run before that. */
 export function bytesOf(given, what) {
-    const view = viewOf(given, what), { length } = view;
-    return { length, put: at => bytesAt(at, length).set(view) };
+    const view = viewOf(given, what), {length} = view;
+    return {length, put: at => bytesAt(at, length).set(view)};
 }
 
 export const textOf = (given, what) => bytesOf(typeof given === 'string' ? encoded(given) : given, what);

@@ -1,7 +1,7 @@
 /** The module of WebAssembly: loaded, called, and its memory. */
-import { kindOf } from './kinds.js';
-import { Status } from './reasons.js';
-import { OutOfMemory } from './refused.js';
+import {kindOf} from './kinds.js';
+import {Status} from './reasons.js';
+import {OutOfMemory, Refused, whereOf} from './refused.js';
 
 export const version = '0.1.0';
 
@@ -15,6 +15,9 @@ const TEXT_ROOM = 32;
 
 /** @type {WebAssembly.Module} */
 let compiled = null;
+// The module that a call of load() fetches and compiles: others that come meanwhile wait for it.
+/** @type {Promise<WebAssembly.Module>} */
+let compiling = null;
 /** @type {any} */
 let wasm = null;
 // The module is at work. If that is so between two calls, it was left without an answer: the stack of the engine
@@ -24,21 +27,45 @@ let inside = false;
 
 /** Loads the module: from the file beside the package, or from where it is said to be. */
 export async function load(source) {
-    compiled ??= await compiledOf((await source) ?? new URL('../polytwkb.wasm', import.meta.url));
+    compiled = await compiledOnce(source);
     if (!wasm || inside) {
         wasm = (await WebAssembly.instantiate(compiled)).exports;
         inside = false;
     }
     const found = wasm.version ? textAt(wasm.version()) : 'another one';
     if (found !== version) {
-        compiled = wasm = null;
+        compiled = compiling = wasm = null;
         throw new Error(`polytwkb ${version} needs the module ${version}, and this one is ${found}`);
     }
 }
 
+/** The module that an earlier call asked for; the first call, or the next if that one fails, asks for its own. */
+async function compiledOnce(source) {
+    while (compiling) {
+        const earlier = await compiling.catch(() => null);
+        if (earlier) return earlier;
+    }
+    const own = given(source).then(compiledOf);
+    compiling = own;
+    own.catch(() => {
+        if (compiling === own) compiling = null;
+    });
+    return own;
+}
+
+async function given(source) {
+    const found = await source;
+    if (found !== undefined && found !== null) return found;
+    // a bundle that is no module has no place of its own
+    if (!import.meta.url)
+        throw new Error('polytwkb: load() needs the place of polytwkb.wasm in a bundle that is no module');
+    return new URL('../polytwkb.wasm', import.meta.url);
+}
+
 async function fileOf(url) {
-    // @ts-ignore there are no types of Node here
-    const { readFile } = await import(/* webpackIgnore: true */ /* @vite-ignore */ 'node:fs/promises');
+    // a bundler for browsers would look for a name that stands in the call
+    const files = 'node:fs/promises';
+    const {readFile} = await import(/* webpackIgnore: true */ /* @vite-ignore */ files);
     try {
         return await readFile(url);
     } catch (cause) {
@@ -129,21 +156,25 @@ function textAt(at) {
 
 export const reasonText = reason => textAt(answered(() => wasm.reason_text(reason)));
 
+/** The refusal that a report tells of a table or a stream, with the output before it. */
+export const refusalOf = (report, output) =>
+    new Refused(report.reason, reasonText(report.reason), whereOf(report), report, output);
+
 /**
  * Reads the numbers of 32 and of 64 bits of a struct of include/polytwkb.h.
  * @returns {any}
  */
 function fieldsAt(at, longs) {
     const view = new DataView(wasm.memory.buffer, at, 8 + 8 * longs.length);
-    const fields = { status: view.getUint32(0, true), reason: view.getUint32(4, true) };
+    const fields = {status: view.getUint32(0, true), reason: view.getUint32(4, true)};
     for (const [place, name] of longs.entries()) {
         fields[name] = view.getUint32(8 + 8 * place, true) + view.getUint32(12 + 8 * place, true) * 2 ** 32;
     }
     return fields;
 }
 
-const REPORT = ['place', 'textOffset', 'done', 'sent', 'needed'];
-const COUNTS = ['place', 'done', 'rows', 'points', 'neededRows', 'neededPoints'];
+const REPORT = ['place', 'textOffset', 'done', 'sent', 'needed', 'taken'];
+const COUNTS = ['place', 'done', 'rows', 'points', 'neededRows', 'neededPoints', 'taken'];
 
 export const reportAt = at => fieldsAt(at, REPORT);
 
@@ -167,8 +198,8 @@ export function filled(input, room, unit, call) {
     input.put(at);
     for (;;) {
         const report = reportAt(answered(() => call(at, at + output, room)));
-        const { status } = report;
-        if (status === Status.DONE || status === Status.REFUSED) return { report, base: at, start: at + output };
+        const {status} = report;
+        if (status === Status.DONE || status === Status.REFUSED) return {report, base: at, start: at + output};
         if (status !== Status.TOO_SMALL || report.needed <= room) throw new OutOfMemory('polytwkb: out of memory');
         room = report.needed;
         at = roomFor(output + room * unit);

@@ -47,6 +47,12 @@ export const Reason = {
     TOO_MANY_RECORDS: 62,
     POINTS_MISSING: 71,
     POINTS_LEFT: 72,
+    NO_SUCH_COLUMN: 81,
+    COLUMN_TWICE: 82,
+    WRONG_FIELD_COUNT: 83,
+    MISSING_VALUE: 84,
+    NO_LINESTRING: 91,
+    ANOTHER_PRECISION: 92,
 };
 
 /** The first reason of each kind: those of a record, of a polyline, of a blob, of a whole input and of arrays. */
@@ -56,4 +62,6 @@ export const First = {
     BLOB: 41,
     WHOLE: 61,
     ARRAY: 71,
+    CSV: 81,
+    LINE: 91,
 };

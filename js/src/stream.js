@@ -1,15 +1,10 @@
 /** A stream of blobs whose bytes come in pieces, as those of `fetch` do. */
-import { shown } from './conversions.js';
-import { Limits, viewOf } from './inputs.js';
-import { kindOf } from './kinds.js';
-import { endOf } from './offsets.js';
-import { Reason } from './reasons.js';
-import { Refused, whereOf } from './refused.js';
-
-// Fewer bytes of a blob are looked at each time that some come; more, when they are twice as many.
-const OFTEN = 2 ** 16;
-const [LINE_FEED, SPACE, ZERO] = [...'\n 0'].map(character => character.charCodeAt(0));
-const HEADER = 13; // the most bytes of type, metadata, extended byte and size
+import {makingArrays} from './arrays.js';
+import {makingGeometries} from './geometries.js';
+import {checkObject, degreesOf, flagOf, limitsAmong, viewOf, wordOf} from './inputs.js';
+import {kindOf} from './kinds.js';
+import {refusalOf} from './module.js';
+import {Windows} from './windows.js';
 
 async function* read(stream) {
     const reader = stream.getReader();
@@ -34,84 +29,49 @@ async function* piecesOf(source) {
     }
 }
 
-/** From the lines of `show`: how many blobs they tell, and where the last of these ends. */
-function told(lines) {
-    let blobs = 0, last = -1;
-    for (let at = 0; at < lines.length; at = lines.indexOf(LINE_FEED, at) + 1) {
-        if (lines[at] !== ZERO || lines[at + 1] !== SPACE) continue;
-        blobs++;
-        last = at;
-    }
-    if (last < 0) return { blobs, end: 0 };
-    const line = String.fromCharCode(...lines.subarray(last, lines.indexOf(LINE_FEED, last))).split(' ');
-    return { blobs, end: Number(line[1]) + Number(line[5]) };
+/** The windows of a stream, and whether what is made of each is given, and not its blobs; as options say. */
+function windowsOf(options) {
+    checkObject(options, 'options');
+    const gives = wordOf(options, 'gives', 'blobs', 'arrays', 'geometries');
+    if (gives === 'blobs')
+        return {windows: new Windows(limitsAmong(options, 'gives'), () => null, false), gives: false};
+    const isArrays = gives === 'arrays', names = isArrays ? ['degrees', 'blobOffsets'] : ['degrees'];
+    const limits = limitsAmong(options, 'gives', ...names), degrees = degreesOf(options);
+    const hasOffsets = isArrays && flagOf(options, 'blobOffsets', false);
+    const made = isArrays ? makingArrays(degrees, hasOffsets) : makingGeometries(degrees);
+    return {windows: new Windows(limits, made, hasOffsets), gives: true};
 }
 
-/** The bytes that have come and are no whole blob yet. */
-class Held {
-    constructor(limits) {
-        this.limits = limits;
-        this.bytes = new Uint8Array(OFTEN);
-        this.length = 0;
-        this.offset = 0; // of its first byte in the stream
-        this.done = 0;
-        this.due = 1;
-    }
-
-    add(piece) {
-        const length = this.length + piece.length;
-        if (length > this.bytes.length) {
-            const longer = new Uint8Array(Math.max(length, 2 * this.bytes.length));
-            longer.set(this.bytes.subarray(0, this.length));
-            this.bytes = longer;
-        }
-        this.bytes.set(piece, this.length);
-        this.length = length;
-    }
-
-    /** The blobs that are whole, and the fault after them, if there is one. At the end a blob that is cut is one. */
-    take(ended) {
-        if (!ended && this.length < this.due || this.length === 0) return { whole: new Uint8Array(0), fault: null };
-        const bytes = this.bytes.subarray(0, this.length);
-        let found, fault = null;
-        try {
-            found = shown(bytes, this.limits, told);
-        } catch (refused) {
-            if (!(refused instanceof Refused)) throw refused;
-            found = refused.output;
-            if (ended || refused.reason !== Reason.BLOB_TRUNCATED) fault = this.moved(refused);
-        }
-        const whole = bytes.slice(0, found.end);
-        this.drop(found);
-        return { whole, fault };
-    }
-
-    /** The refusal at its place in the whole stream. All blobs before it were given. */
-    moved({ reason, text, place, done }) {
-        const report = { reason, place: this.offset + place, done: this.done + done };
-        return new Refused(reason, text, whereOf(report), report, new Uint8Array(0));
-    }
-
-    drop({ blobs, end }) {
-        this.bytes.copyWithin(0, end, this.length);
-        this.length -= end;
-        this.offset += end;
-        this.done += blobs;
-        const more = this.length < OFTEN ? this.length + 1 : 2 * this.length;
-        const whole = endOf(this.bytes.subarray(0, Math.min(this.length, HEADER)), 0);
-        this.due = whole > this.length ? Math.min(whole, Math.max(more, OFTEN)) : more;
-    }
+/** The blobs that are whole, one after the other, or what is made of those of each window; and the fault after them. */
+function* taken({windows, gives}, isEnd) {
+    const {bytes, start} = windows;
+    for (const part of windows.take(isEnd))
+        if (gives) yield part;
+    if (!gives && windows.start > start) yield bytes.slice(start, windows.start);
+    if (windows.fault) throw refusalOf(windows.fault, new Uint8Array(0));
 }
 
-export async function* stream(source, limits) {
-    const held = new Held(new Limits(limits));
+async function* parts(source, reading) {
     for await (const piece of piecesOf(await source)) {
-        held.add(viewOf(piece, 'a piece is bytes'));
-        const { whole, fault } = held.take(false);
-        if (whole.length) yield whole;
-        if (fault) throw fault;
+        reading.windows.add(viewOf(piece, 'a piece is bytes'));
+        yield* taken(reading, false);
     }
-    const { whole, fault } = held.take(true);
-    if (whole.length) yield whole;
-    if (fault) throw fault;
+    yield* taken(reading, true);
+}
+
+export async function* stream(source, options = {}) { yield* parts(source, windowsOf(options)); }
+
+export function transform(options = {}) {
+    const reading = windowsOf(options), {readable, writable} = new TransformStream(), reader = readable.getReader();
+    const given = parts({getReader: () => reader}, reading);
+    // One part at a time, so that those before a fault are not lost when the fault ends the stream.
+    const source = {
+        async pull(controller) {
+            const {done, value} = await given.next();
+            if (done) controller.close();
+            else controller.enqueue(value);
+        },
+        cancel: reason => reader.cancel(reason),
+    };
+    return {writable, readable: new ReadableStream(source, {highWaterMark: 0})};
 }

@@ -1,20 +1,28 @@
 // The package and the page in headless browsers: a line for each check.
 //
 //     node browser.mjs CASES FOLDER BROWSER..
+//     node browser.mjs picture FOLDER BROWSER..
 //
-// CASES are those of cases.py; pictures of the page are left in FOLDER. Ends what it starts, by its id.
-import { spawn } from 'node:child_process';
-import { createReadStream, existsSync, mkdtempSync, readFileSync, rmSync, statSync } from 'node:fs';
-import { createServer } from 'node:http';
-import { tmpdir } from 'node:os';
-import { extname, join, normalize, resolve } from 'node:path';
-import { fileURLToPath } from 'node:url';
+// CASES are those of cases.py; pictures of the page are left in FOLDER, with `picture` without the checks. Ends what it
+// starts, by its id.
+import {spawn} from 'node:child_process';
+import {createReadStream, existsSync, mkdtempSync, readFileSync, rmSync, statSync} from 'node:fs';
+import {createServer} from 'node:http';
+import {tmpdir} from 'node:os';
+import {extname, join, normalize, resolve} from 'node:path';
+import {fileURLToPath} from 'node:url';
 import * as polytwkb from '../polytwkb.js';
 
 const [cases, folder, ...browsers] = process.argv.slice(2);
 const SECONDS = 1200;
+const WHICH = cases === 'picture' ? '?only=testPicture' : '';
 const TOP = fileURLToPath(new URL('..', import.meta.url));
-const KINDS = { '.html': 'text/html', '.js': 'text/javascript', '.wasm': 'application/wasm', '.css': 'text/css' };
+const KINDS = {
+    '.html': 'text/html',
+    '.js': 'text/javascript',
+    '.wasm': 'application/wasm',
+    '.css': 'text/css'
+};
 const POINT = Buffer.from([1, 2, 2, 4, 2]);
 let told = null, held = null, began = 'the start';
 
@@ -62,7 +70,7 @@ const MADE = {
     '/cut': response => response.end(Buffer.concat([POINT, POINT, POINT.subarray(0, 3)])),
     '/shapes': response => response.end(polytwkb.pack(SHAPES)),
     '/examples/leaflet/index.html': (response, path) => {
-        response.writeHead(200, { 'Content-Type': 'text/html' });
+        response.writeHead(200, {'Content-Type': 'text/html'});
         response.end(mapOf(path));
     },
 };
@@ -71,7 +79,7 @@ function send(path, response) {
     const top = path.startsWith('/leaflet/') ? LEAFLET : TOP;
     const file = path === '/cases' ? cases : join(top, normalize(path));
     if (!existsSync(file) || !statSync(file).isFile()) return response.writeHead(404).end();
-    response.writeHead(200, { 'Content-Type': KINDS[extname(file)] ?? 'application/octet-stream' });
+    response.writeHead(200, {'Content-Type': KINDS[extname(file)] ?? 'application/octet-stream'});
     return createReadStream(file).pipe(response);
 }
 
@@ -89,15 +97,17 @@ const base = `http://127.0.0.1:${server.address().port}`;
 /** Has a browser show a page, and leave a picture of it; its status. */
 async function shown(browser, url, picture) {
     const profile = mkdtempSync(join(tmpdir(), 'polytwkb-browser-'));
-    const words = browser.includes('firefox')
-        ? ['--headless', '--no-remote', '--profile', profile, '--window-size=1180,820', '--screenshot', picture, url]
-        : ['--headless', '--no-sandbox', '--disable-gpu', '--no-first-run', `--user-data-dir=${profile}`,
-            '--hide-scrollbars', '--window-size=1180,820', `--screenshot=${picture}`, url];
-    const child = spawn(browser, words, { stdio: 'ignore' });
+    const words = browser.includes('firefox') ?
+        ['--headless', '--no-remote', '--profile', profile, '--window-size=1180,820', '--screenshot', picture, url] :
+        [
+            '--headless', '--no-sandbox', '--disable-gpu', '--no-first-run', `--user-data-dir=${profile}`,
+            '--hide-scrollbars', '--window-size=1180,820', `--screenshot=${picture}`, url
+        ];
+    const child = spawn(browser, words, {stdio: 'ignore'});
     const timer = setTimeout(() => child.kill('SIGKILL'), SECONDS * 1000);
     const status = await new Promise(resolve => child.on('exit', resolve).on('error', fault => resolve(fault.message)));
     clearTimeout(timer);
-    rmSync(profile, { recursive: true, force: true, maxRetries: 40, retryDelay: 500 });
+    rmSync(profile, {recursive: true, force: true, maxRetries: 40, retryDelay: 500});
     return status;
 }
 
@@ -105,7 +115,7 @@ let wrong = 0;
 for (const browser of browsers) {
     began = 'the start';
     const result = new Promise(resolve => (told = resolve)), picture = resolve(folder, `${browser}.png`);
-    const status = await shown(browser, `${base}/tests/in_browser.html`, picture);
+    const status = await shown(browser, `${base}/tests/in_browser.html${WHICH}`, picture);
     const text = await Promise.race([result, `FAIL  ${began}: no result, and the browser ended with ${status}`]);
     for (const line of text.split('\n')) {
         console.log(line.replace(/^(ok  |FAIL)  /, `$1  ${browser}: `));

@@ -1,6 +1,6 @@
 // A program that a bundler takes, with the module as a file beside it.
 import file from 'polytwkb-module';
-import { geometries, load, pack, unpack } from 'polytwkb';
+import {geometries, load, pack, unpack} from 'polytwkb';
 
 await load(new URL(file, import.meta.url));
 const table = 'depth,kind,id,precision,polyline\n0,point,,0,AC\n', blobs = pack(table);

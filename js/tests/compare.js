@@ -1,7 +1,8 @@
 // Compares modules and the package with what the native library answered (cases.py). For node and for browsers.
-const NAMES = ['pack', 'unpack', 'show', 'encode', 'decode', 'read', 'write', 'round'];
-const [PACK, , , ENCODE, DECODE, READ, WRITE, ROUND] = NAMES.keys();
-const [HEAD, POINT, ROW, FILL, BEHIND] = [40, 16, 24, 0xa5, 64];
+const NAMES = ['pack', 'unpack', 'show', 'geojson', 'headers', 'encode', 'decode', 'read', 'write', 'round'];
+const [, , , , , ENCODE, DECODE, READ, WRITE, ROUND] = NAMES.keys();
+const [HEAD, POINT, ROW, END, HEADER, FILL, BEHIND] = [40, 16, 24, 8, 32, 0xa5, 64];
+const KINDS = ['point', 'linestring', 'polygon', 'multipoint', 'multilinestring', 'multipolygon', 'collection'];
 const OUTSIDE = 2n ** 62n; // what a number becomes that has no unit
 const FAR = 2n ** 51n; // units of such a size are left to the package
 const MOST_TOLD = 10;
@@ -14,15 +15,19 @@ const viewOf = bytes => new DataView(bytes.buffer, bytes.byteOffset, bytes.byteL
 /** The records that are whole in some bytes, and how many bytes they take. */
 export function records(bytes) {
     const view = viewOf(bytes), found = [];
-    for (let at = 0; ;) {
-        if (at + HEAD > bytes.length) return { found, used: at };
-        const numbers = Array.from({ length: 9 }, (_, place) => view.getUint32(at + 4 + 4 * place, true));
-        const [nest, nodes, points, first, second, , ...lengths] = numbers;
+    for (let at = 0;;) {
+        if (at + HEAD > bytes.length) return {found, used: at};
+        const numbers = Array.from({length: 9}, (_, place) => view.getUint32(at + 4 + 4 * place, true));
+        const [nest, nodes, points, first, second, third, ...lengths] = numbers;
         const [source, report, output, end] = [0, ...lengths].map((sum => length => (sum += length))(at + HEAD));
-        if (end > bytes.length) return { found, used: at };
+        if (end > bytes.length) return {found, used: at};
         found.push({
-            call: bytes[at], style: bytes[at + 1], limits: [nest, nodes, points], rooms: [first, second],
-            source: bytes.subarray(source, report), report: bytes.subarray(report, output),
+            call: bytes[at],
+            style: bytes[at + 1],
+            limits: [nest, nodes, points],
+            rooms: [first, second, third],
+            source: bytes.subarray(source, report),
+            report: bytes.subarray(report, output),
             output: bytes.subarray(output, end),
         });
         at = end;
@@ -30,20 +35,20 @@ export function records(bytes) {
 }
 
 /** The arguments of a record's call, whose input and output are at places of the module's memory. */
-function argumentsOf({ call, style, limits, rooms: [first, second], source }, from, to) {
-    const { length } = source;
-    if (call === READ) return [from, length, to + POINT * second, first, to, second, ...limits];
+function argumentsOf({call, style, limits, rooms: [first, second, third], source, output}, from, to) {
+    const {length} = source, ends = [to + output.length - END * third, third];
+    if (call === READ) return [from, length, to + POINT * second, first, to, second, ...ends, ...limits, style];
     if (call === WRITE) {
-        const rows = POINT * second;
-        return [from + rows, (length - rows) / ROW, from, second, to, first, ...limits, style];
+        const rows = POINT * second, arrays = [from + rows, (length - rows) / ROW, from, second];
+        return [...arrays, to, first, ...ends, ...limits, style % 2, style >> 1];
     }
-    const more = call >= ENCODE ? [] : call === PACK ? [...limits, style] : limits;
-    return [from, call === ENCODE ? length / POINT : length, to, first, ...more];
+    if (call < ENCODE) return [call, from, length, to, first, ...limits, style];
+    return [from, call === ENCODE ? length / POINT : length, to, first];
 }
 
 /** What a record of rounding finds wrong with a module, which rounds in place, and back. The style is the precision and 8. */
-function roundingFault(exports, { style, source, report, output }) {
-    const { length } = source, from = exports.buffers(length + ROW) >>> 0, row = from + length, { buffer } = exports.memory;
+function roundingFault(exports, {style, source, report, output}) {
+    const {length} = source, from = exports.buffers(length + ROW) >>> 0, row = from + length, {buffer} = exports.memory;
     const units = new BigInt64Array(buffer, from, length / 8), degrees = new Float64Array(buffer, from, length / 8);
     const count = length / POINT, due = Number(viewOf(report).getBigUint64(32, true));
     const expected = new BigInt64Array(new Uint8Array(output.subarray(0, 8 * due)).buffer);
@@ -60,15 +65,16 @@ function roundingFault(exports, { style, source, report, output }) {
 
 /** What a record finds wrong with a module, or an empty text. */
 export async function checking(bytes) {
-    const { exports } = await WebAssembly.instantiate(await WebAssembly.compile(bytes));
+    const {exports} = await WebAssembly.instantiate(await WebAssembly.compile(bytes));
     return record => {
         if (record.call === ROUND) return roundingFault(exports, record);
-        const { call, source, report, output } = record, size = output.length;
+        const {call, source, report, output} = record, size = output.length;
         const from = exports.buffers(padded(source.length) + size + BEHIND) >>> 0, to = from + padded(source.length);
         const memory = (start, length) => new Uint8Array(exports.memory.buffer, start, length);
         memory(to, size + BEHIND).fill(FILL);
         memory(from, source.length).set(source);
-        const where = exports[NAMES[call]](...argumentsOf(record, from, to)) >>> 0;
+        const run = exports[call < ENCODE ? 'convert' : NAMES[call]];
+        const where = run(...argumentsOf(record, from, to)) >>> 0;
         if (exports.kept()) return 'keeps memory';
         const said = memory(where, report.length);
         if (!same(said, report)) return `report ${said}, not ${report}`;
@@ -78,12 +84,24 @@ export async function checking(bytes) {
     };
 }
 
+/** Headers of the package as the bytes of records. */
+function bytesOfHeaders(headers) {
+    const bytes = new Uint8Array(HEADER * headers.length), view = viewOf(bytes);
+    for (const [place, {level, offset, kind, precision, metadata, length, points}] of headers.entries()) {
+        for (const [at, number] of [offset, length, points].entries())
+            view.setBigUint64(HEADER * place + 8 * at, BigInt(number), true);
+        view.setUint32(HEADER * place + 24, level, true);
+        bytes.set([KINDS.indexOf(kind) + 1, precision, metadata], HEADER * place + 28);
+    }
+    return bytes;
+}
+
 const metadataOf = number => number.toString(16).toUpperCase().padStart(2, '0');
-const lineOf = ({ level, offset, kind, precision, metadata, length, points }) =>
+const lineOf = ({level, offset, kind, precision, metadata, length, points}) =>
     `${[level, offset, kind, precision, metadataOf(metadata), length, points].join(' ')}\n`;
 
 /** Arrays of the package as the bytes of points and rows. */
-export function bytesOfArrays({ depths, kinds, precisions, hasIds, ids, offsets, xy }) {
+export function bytesOfArrays({depths, kinds, precisions, hasIds, ids, offsets, xy}) {
     const start = 8 * xy.length, bytes = new Uint8Array(start + ROW * depths.length), view = viewOf(bytes);
     new BigInt64Array(bytes.buffer, 0, xy.length).set(xy);
     for (let row = 0, at = start; row < depths.length; row++, at += ROW) {
@@ -101,8 +119,12 @@ export function bytesOfArrays({ depths, kinds, precisions, hasIds, ids, offsets,
 function arraysOfBytes(source, points) {
     const view = viewOf(source), first = POINT * points, count = (source.length - first) / ROW;
     const arrays = {
-        depths: new Uint8Array(count), kinds: new Uint8Array(count), precisions: new Int8Array(count),
-        hasIds: new Uint8Array(count), ids: new BigInt64Array(count), offsets: new Uint32Array(count + 1),
+        depths: new Uint8Array(count),
+        kinds: new Uint8Array(count),
+        precisions: new Int8Array(count),
+        hasIds: new Uint8Array(count),
+        ids: new BigInt64Array(count),
+        offsets: new Uint32Array(count + 1),
         xy: new BigInt64Array(new Uint8Array(source.subarray(0, first)).buffer),
     };
     for (let row = 0, at = first, start = 0; row < count; row++, at += ROW) {
@@ -118,23 +140,25 @@ function arraysOfBytes(source, points) {
 }
 
 /** The call of a record by the package, and the form in which its output is compared. */
-function calling(polytwkb, { call, style, limits: [nest, nodes, points], rooms, source }) {
-    const limits = { nest, nodes, points }, form = style ? 'plain' : 'full';
+function calling(polytwkb, {call, style, limits: [nest, nodes, points], rooms, source}) {
+    const limits = {nest, nodes, points}, form = style % 2 ? 'plain' : 'full';
     const arrays = call === WRITE ? arraysOfBytes(source, rooms[1]) : null;
     if (call === WRITE && !arrays) return null;
     return [
-        [() => polytwkb.pack(source, form, limits), latin],
+        [() => polytwkb.pack(source, {...limits, style: form}), latin],
         [() => polytwkb.unpack(source, limits), text => text],
         [() => polytwkb.show(source, limits), headers => headers.map(lineOf).join('')],
+        [() => polytwkb.toGeojson(source, limits), text => text],
+        [() => polytwkb.show(source, limits), headers => latin(bytesOfHeaders(headers))],
         [() => polytwkb.encode(new BigInt64Array(new Uint8Array(source).buffer)), text => text],
         [() => polytwkb.decodeFlat(source), numbers => latin(new Uint8Array(numbers.buffer))],
-        [() => polytwkb.read(source, { ...limits, degrees: false }), found => latin(bytesOfArrays(found))],
-        [() => polytwkb.write(arrays, { ...limits, style: form }), latin],
+        [() => polytwkb.read(source, {...limits, degrees: false}), found => latin(bytesOfArrays(found))],
+        [() => polytwkb.write(arrays, {...limits, style: form}), latin],
     ][call];
 }
 
 /** The part of a record's output that is written, as its report says. */
-function writtenOf({ call, rooms, report, output }) {
+function writtenOf({call, rooms, report, output}) {
     const long = at => Number(viewOf(report).getBigUint64(at, true));
     if (call !== READ) return output.subarray(0, long(32) * (call === DECODE ? POINT : 1));
     const start = POINT * rooms[1], points = output.subarray(0, POINT * long(32));
@@ -145,7 +169,7 @@ function writtenOf({ call, rooms, report, output }) {
 }
 
 /** Why, where and after how many geometries a record's input is refused; an empty text if it is not. */
-function refusalOf({ call, report }) {
+function refusalOf({call, report}) {
     const view = viewOf(report), long = at => Number(view.getBigUint64(at, true));
     if (!view.getUint32(0, true)) return '';
     const reason = view.getUint32(4, true);
@@ -164,7 +188,7 @@ export function checkingPackage(polytwkb) {
             got = run();
         } catch (fault) {
             if (!(fault instanceof polytwkb.Refused)) return String(fault.stack);
-            const { reason, place, textOffset = 0, done } = fault;
+            const {reason, place, textOffset = 0, done} = fault;
             [got, found] = [fault.output, [reason, place, textOffset, done]];
         }
         if (form(got) !== latin(writtenOf(record))) return 'output of the package';
@@ -175,9 +199,7 @@ export function checkingPackage(polytwkb) {
 
 /** Runs records by each check; counts, and tells the first that differ. */
 export class Comparing {
-    constructor(checks) {
-        Object.assign(this, { checks, count: 0, compared: 0, wrong: 0, ends: new Map(), told: [] });
-    }
+    constructor(checks) { Object.assign(this, {checks, count: 0, compared: 0, wrong: 0, ends: new Map(), told: []}); }
 
     add(record) {
         const view = viewOf(record.report);
@@ -187,7 +209,7 @@ export class Comparing {
             const fault = check(record);
             this.compared++;
             if (!fault || ++this.wrong > MOST_TOLD) continue;
-            const { call, style, limits, source } = record;
+            const {call, style, limits, source} = record;
             const what = `${NAMES[call]} ${style} ${limits} ${latin(source).slice(0, 400)}`;
             this.told.push(`case ${this.count} by ${name}: ${fault}; ${what}`);
         }

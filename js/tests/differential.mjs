@@ -1,10 +1,10 @@
 // Compares modules with the native library: each case of cases.py by each module, and by the package.
 //
 //     node differential.mjs CASES MODULE.wasm..
-import { openSync, readFileSync, readSync } from 'node:fs';
-import { basename } from 'node:path';
+import {openSync, readFileSync, readSync} from 'node:fs';
+import {basename} from 'node:path';
 import * as polytwkb from '../polytwkb.js';
-import { Comparing, checking, checkingPackage, records } from './compare.js';
+import {Comparing, checking, checkingPackage, records} from './compare.js';
 
 const [cases, ...files] = process.argv.slice(2);
 await polytwkb.load();
@@ -13,7 +13,7 @@ const comparing = new Comparing([...modules, ['package', checkingPackage(polytwk
 const input = openSync(cases), piece = Buffer.alloc(1 << 24);
 let held = Buffer.alloc(0);
 for (let got; (got = readSync(input, piece)) > 0;) {
-    const bytes = Buffer.concat([held, piece.subarray(0, got)]), { found, used } = records(bytes);
+    const bytes = Buffer.concat([held, piece.subarray(0, got)]), {found, used} = records(bytes);
     for (const record of found) comparing.add(record);
     held = bytes.subarray(used);
 }

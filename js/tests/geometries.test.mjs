@@ -3,7 +3,7 @@ import assert from 'node:assert/strict';
 import test from 'node:test';
 import * as polytwkb from '../polytwkb.js';
 import * as plain from './plain_decoder.mjs';
-import { bytes, hex, postgis, table, within, written } from './rows.mjs';
+import {bytes, hex, postgis, table, within, written} from './rows.mjs';
 
 await polytwkb.load();
 
@@ -11,7 +11,7 @@ await polytwkb.load();
 test('geometries are those of the plain decoder', () => {
     let count = 0;
     for (const stream of written()) {
-        if (polytwkb.show(stream).some(({ precision }) => precision < 0)) continue;
+        if (polytwkb.show(stream).some(({precision}) => precision < 0)) continue;
         let expected;
         try {
             expected = plain.geometries(stream);
@@ -26,14 +26,16 @@ test('geometries are those of the plain decoder', () => {
 });
 
 /** The rows that a geometry would have in a table, with points for the polyline. */
-function* rowsOf({ type, coordinates, geometries, ids }, depth = 0, id = undefined) {
+function* rowsOf({type, coordinates, geometries, ids}, depth = 0, id = undefined) {
     const kind = type === 'GeometryCollection' ? 'collection' : type.toLowerCase();
     yield [depth, kind, id, kind === 'point' || kind === 'linestring' ? coordinates : null];
-    const parts = { Polygon: 'ring', MultiPoint: 'point', MultiLineString: 'linestring' }[type];
-    if (parts) for (const [place, part] of coordinates.entries()) yield [depth + 1, parts, ids?.[place], part];
-    const polygons = type === 'MultiPolygon' && coordinates.map(part => ({ type: 'Polygon', coordinates: part }));
+    const parts = {Polygon: 'ring', MultiPoint: 'point', MultiLineString: 'linestring'}[type];
+    if (parts)
+        for (const [place, part] of coordinates.entries()) yield [depth + 1, parts, ids?.[place], part];
+    const polygons = type === 'MultiPolygon' && coordinates.map(part => ({type: 'Polygon', coordinates: part}));
     const members = polygons || geometries;
-    if (members) for (const [place, member] of members.entries()) yield* rowsOf(member, depth + 1, ids?.[place]);
+    if (members)
+        for (const [place, member] of members.entries()) yield* rowsOf(member, depth + 1, ids?.[place]);
 }
 
 const POINTED = new Set(['linestring', 'ring']);
@@ -51,14 +53,14 @@ function rowsOfText(lines, read) {
 }
 
 function* streams() {
-    for (const { given, limits, expected } of within('tables', 'full')) {
-        if (!expected[1]) yield [polytwkb.pack(table(given), 'plain', limits), limits];
+    for (const {given, limits, expected} of within('tables', 'full')) {
+        if (!expected[1]) yield [polytwkb.pack(table(given), {...limits, style: 'plain'}), limits];
     }
-    for (const { hex: blob } of postgis) yield [bytes(blob)];
+    for (const {hex: blob} of postgis) yield [bytes(blob)];
 }
 
-const linesOf = (stream, limits) => postgis.find(vector => vector.hex === hex(stream))?.rows
-    ?? polytwkb.unpack(stream, limits).split('\n').slice(1, -1);
+const linesOf = (stream, limits) => postgis.find(vector => vector.hex === hex(stream))?.rows ??
+    polytwkb.unpack(stream, limits).split('\n').slice(1, -1);
 
 test('geometries and rows say the same', () => {
     for (const [stream, limits] of streams()) {
@@ -69,16 +71,16 @@ test('geometries and rows say the same', () => {
 
 const exactly = text => {
     const numbers = [...polytwkb.decodeFlat(text)];
-    return Array.from({ length: numbers.length / 2 }, (_, place) => numbers.slice(2 * place, 2 * place + 2));
+    return Array.from({length: numbers.length / 2}, (_, place) => numbers.slice(2 * place, 2 * place + 2));
 };
 
 test('exact geometries and rows say the same', () => {
     for (const [stream, limits] of streams()) {
-        const found = polytwkb.geometries(stream, { ...limits, degrees: false });
+        const found = polytwkb.geometries(stream, {...limits, degrees: false});
         const rows = found.flatMap(geometry => [...rowsOf(geometry)]);
         assert.deepEqual(rows, rowsOfText(linesOf(stream, limits), exactly));
-        const roots = polytwkb.show(stream, limits).filter(({ level }) => level === 0);
-        assert.deepEqual(found.map(({ precision }) => precision), roots.map(({ precision }) => precision));
+        const roots = polytwkb.show(stream, limits).filter(({level}) => level === 0);
+        assert.deepEqual(found.map(({precision}) => precision), roots.map(({precision}) => precision));
     }
 });
 
@@ -86,17 +88,17 @@ test('numbers of any size', () => {
     const most = 2n ** 62n - 1n, id = 2n ** 60n;
     const text = polytwkb.encode([[most, -(2n ** 62n)]]);
     const stream = polytwkb.pack(table(`0,collection,,0,/1,point,${id},7,${text}/1,point,-5,-3,${text}/`));
-    const [geometry] = polytwkb.geometries(stream), [exact] = polytwkb.geometries(stream, { degrees: false });
+    const [geometry] = polytwkb.geometries(stream), [exact] = polytwkb.geometries(stream, {degrees: false});
     assert.deepEqual(geometry.ids, [id, -5]);
     assert.deepEqual(geometry.geometries[0].coordinates, [461168601842.7388, -461168601842.7388]);
     assert.deepEqual(geometry.geometries[1].coordinates, [4.611686018427388e21, -4.611686018427388e21]);
-    assert.deepEqual(exact.geometries[1], { type: 'Point', coordinates: [most, -(2n ** 62n)], precision: -3 });
+    assert.deepEqual(exact.geometries[1], {type: 'Point', coordinates: [most, -(2n ** 62n)], precision: -3});
 });
 
 test('large geometries', () => {
-    const line = Array.from({ length: 70000 }, (_, place) => [place, 1 - place]);
+    const line = Array.from({length: 70000}, (_, place) => [place, 1 - place]);
     const stream = polytwkb.pack(table(`0,linestring,,0,${polytwkb.encode(line)}/`.repeat(3) + '0,point,,0,AC/'));
     const found = polytwkb.geometries(stream);
-    assert.deepEqual(found.map(({ type }) => type), ['LineString', 'LineString', 'LineString', 'Point']);
-    for (const { coordinates } of found.slice(0, 3)) assert.deepEqual(coordinates, line);
+    assert.deepEqual(found.map(({type}) => type), ['LineString', 'LineString', 'LineString', 'Point']);
+    for (const {coordinates} of found.slice(0, 3)) assert.deepEqual(coordinates, line);
 });

@@ -3,9 +3,9 @@
 //
 //     node [--wasm-max-mem-pages=N] heap.mjs HEAP.wasm
 import assert from 'node:assert/strict';
-import { readFileSync } from 'node:fs';
+import {readFileSync} from 'node:fs';
 
-const { instance: { exports: wasm } } = await WebAssembly.instantiate(readFileSync(process.argv[2]));
+const {instance: {exports: wasm}} = await WebAssembly.instantiate(readFileSync(process.argv[2]));
 const [ROUNDS, STEPS, MOST] = [300, 200, [20, 300, 5000, 70000, 400000]];
 let state = Number(process.env.SEED ?? 1);
 const random = most => (state = (state * 1103515245 + 12345) % 2 ** 31) % most;
@@ -16,7 +16,7 @@ class Model {
     constructor() {
         this.base = wasm.buffers(16 + random(5000)) >>> 0; // the first 16 bytes take what a call answers
         assert.ok(this.base);
-        Object.assign(this, { blocks: [], lacked: 0 });
+        Object.assign(this, {blocks: [], lacked: 0});
     }
 
     get answer() {
@@ -27,7 +27,7 @@ class Model {
     written(at, size) {
         const mark = 1 + random(255);
         memory().fill(mark, at, at + size);
-        return { at, size, mark };
+        return {at, size, mark};
     }
 
     take(size) {
@@ -57,7 +57,7 @@ class Model {
 
     check() {
         const bytes = memory(), blocks = [...this.blocks].sort((left, right) => left.at - right.at);
-        for (const [place, { at, size, mark }] of blocks.entries()) {
+        for (const [place, {at, size, mark}] of blocks.entries()) {
             const before = place ? blocks[place - 1].at + blocks[place - 1].size : this.base + 16;
             assert.ok(at % 16 === 0 && at >= before && at + size <= bytes.length);
             for (const offset of [0, size >> 1, size - 1]) assert.equal(bytes[at + offset], mark);
@@ -65,7 +65,7 @@ class Model {
     }
 
     step() {
-        const { blocks } = this, size = 1 + random(MOST[random(MOST.length)]), kind = blocks.length ? random(10) : 0;
+        const {blocks} = this, size = 1 + random(MOST[random(MOST.length)]), kind = blocks.length ? random(10) : 0;
         if (kind < 4) this.take(size);
         else if (kind < 8) this.change(random(3) ? blocks.length - 1 : random(blocks.length), size);
         else this.drop(random(blocks.length));
@@ -76,7 +76,7 @@ class Model {
         wasm.rattle_alloc(BigInt(this.base), 2n ** 62n, 8n);
         assert.equal(this.answer, null);
         wasm.rattle_alloc(BigInt(this.base), 0n, 8n);
-        this.blocks.push({ at: this.answer, size: 8 });
+        this.blocks.push({at: this.answer, size: 8});
         while (this.blocks.length) this.drop(random(this.blocks.length));
         assert.equal(wasm.kept(), 0);
     }

@@ -1,9 +1,9 @@
 // With little memory each call answers as ever or raises OutOfMemory, and the next call works.
 //
 //     node --wasm-max-mem-pages=N little.mjs CASES
-import { readFileSync } from 'node:fs';
+import {readFileSync} from 'node:fs';
 import * as polytwkb from '../polytwkb.js';
-import { checkingPackage, records } from './compare.js';
+import {checkingPackage, records} from './compare.js';
 
 class Lacked extends Error {}
 

@@ -3,11 +3,21 @@
 
 const BOX = 1, SIZE = 2, IDS = 4, EXTENDED = 8, EMPTY = 16;
 const TYPES = [
-    '', 'Point', 'LineString', 'Polygon', 'MultiPoint', 'MultiLineString', 'MultiPolygon', 'GeometryCollection',
+    '',
+    'Point',
+    'LineString',
+    'Polygon',
+    'MultiPoint',
+    'MultiLineString',
+    'MultiPolygon',
+    'GeometryCollection',
 ];
 
 class Reader {
-    constructor(bytes) { this.bytes = bytes; this.offset = 0; }
+    constructor(bytes) {
+        this.bytes = bytes;
+        this.offset = 0;
+    }
 
     byte() {
         if (this.offset === this.bytes.length) throw new Error(`byte ${this.offset}: truncated`);
@@ -15,7 +25,7 @@ class Reader {
     }
 
     varint() {
-        for (let value = 0, unit = 1; ; unit *= 128) {
+        for (let value = 0, unit = 1;; unit *= 128) {
             const byte = this.byte();
             value += (byte % 128) * unit;
             if (value > Number.MAX_SAFE_INTEGER) throw new Error(`byte ${this.offset}: number past 2^53`);
@@ -23,9 +33,12 @@ class Reader {
         }
     }
 
-    signed() { const form = this.varint(); return form % 2 ? -(form + 1) / 2 : form / 2; }
+    signed() {
+        const form = this.varint();
+        return form % 2 ? -(form + 1) / 2 : form / 2;
+    }
 
-    list(count, read) { return Array.from({ length: count }, read); }
+    list(count, read) { return Array.from({length: count}, read); }
 
     point() {
         this.x += this.signed();
@@ -49,14 +62,14 @@ class Reader {
 
     body(kind, metadata) {
         const type = TYPES[kind], empty = metadata & EMPTY;
-        if (kind === 1) return { type, coordinates: empty ? [] : this.point() };
-        if (kind === 2) return { type, coordinates: empty ? [] : this.line() };
-        if (kind === 3) return { type, coordinates: empty ? [] : this.area() };
+        if (kind === 1) return {type, coordinates: empty ? [] : this.point()};
+        if (kind === 2) return {type, coordinates: empty ? [] : this.line()};
+        if (kind === 3) return {type, coordinates: empty ? [] : this.area()};
         const count = empty ? 0 : this.varint();
-        const ids = metadata & IDS && count ? { ids: this.list(count, () => this.signed()) } : {};
-        if (kind === 7) return { type, ...ids, geometries: this.list(count, () => this.geometry()) };
+        const ids = metadata & IDS && count ? {ids: this.list(count, () => this.signed())} : {};
+        if (kind === 7) return {type, ...ids, geometries: this.list(count, () => this.geometry())};
         const read = [() => this.point(), () => this.line(), () => this.area()][kind - 4];
-        return { type, ...ids, coordinates: this.list(count, read) };
+        return {type, ...ids, coordinates: this.list(count, read)};
     }
 }
 

@@ -6,7 +6,7 @@ const formOf = it => (typeof it === 'object' ? JSON.stringify(it) : String(it));
 /** Imports a text as a module. */
 function run(text) {
     if (globalThis.process?.versions?.node) return import(`data:text/javascript,${encodeURIComponent(text)}`);
-    return import(URL.createObjectURL(new Blob([text], { type: 'text/javascript' })));
+    return import(URL.createObjectURL(new Blob([text], {type: 'text/javascript'})));
 }
 
 /** The lines that are printed otherwise than the comments say; `url` is that of the package. */

@@ -1,8 +1,8 @@
 // The package does what its README shows.
 import assert from 'node:assert/strict';
-import { readFileSync } from 'node:fs';
+import {readFileSync} from 'node:fs';
 import test from 'node:test';
-import { faultsOf } from './readme.js';
+import {faultsOf} from './readme.js';
 
 test('the package does what its README shows', async () => {
     const readme = readFileSync(new URL('../README.md', import.meta.url), 'utf8');

@@ -1,5 +1,5 @@
 // The rows of tests/vectors and the blobs of PostGIS, as tests read them.
-import { readFileSync } from 'node:fs';
+import {readFileSync} from 'node:fs';
 import * as polytwkb from '../polytwkb.js';
 
 const TESTS = new URL('../../tests/', import.meta.url);
@@ -28,11 +28,11 @@ export function* within(name, ...words) {
         const [word, ...rest] = line.split(' '), given = rest.join(' ');
         if (word === 'limits') {
             const [nest, nodes, points] = rest.map(Number);
-            limits = { nest, nodes, points };
+            limits = {nest, nodes, points};
         }
         if (!words.includes(word)) continue;
         const [, done, output, refusal] = new RegExp(`^${word} (\\d+) \\d+ ?([^;]*)(?:; (.*))?$`).exec(printed[0]);
-        yield { word, given, limits, done: Number(done), expected: [output, refusal ?? ''] };
+        yield {word, given, limits, done: Number(done), expected: [output, refusal ?? '']};
     }
 }
 
@@ -51,13 +51,13 @@ export function outcome(call, ...given) {
 const metadataOf = number => number.toString(16).toUpperCase().padStart(2, '0');
 
 /** A header as the command prints it. */
-export const lineOf = ({ level, offset, kind, precision, metadata, length, points }) =>
+export const lineOf = ({level, offset, kind, precision, metadata, length, points}) =>
     `${[level, offset, kind, precision, metadataOf(metadata), length, points].join(' ')}\n`;
 
 /** Blobs of PostGIS, their canonical blobs, and those of the tables. */
 export function* written() {
-    for (const { hex: blob, full = blob, plain = blob } of postgis) yield* [blob, full, plain].map(bytes);
-    for (const { given, expected } of within('tables', 'full', 'plain')) {
+    for (const {hex: blob, full = blob, plain = blob} of postgis) yield* [blob, full, plain].map(bytes);
+    for (const {given, expected} of within('tables', 'full', 'plain')) {
         if (expected[1]) continue;
         const [blobs, refusal] = outcome(polytwkb.pack, table(given));
         if (!refusal) yield blobs;

@@ -2,33 +2,33 @@
 import assert from 'node:assert/strict';
 import test from 'node:test';
 import * as polytwkb from '../polytwkb.js';
-import { HEADER, bytes, hex, lineOf, outcome, postgis, rowsOf, table, within } from './rows.mjs';
+import {HEADER, bytes, hex, lineOf, outcome, postgis, rowsOf, table, within} from './rows.mjs';
 
 await polytwkb.load();
 
 const shown = headers => headers.map(lineOf).join('');
 
 function optionsOf(words) {
-    const limits = {};
+    const limits = {}, geojson = words.includes('--geojson');
     let style = 'full';
     for (const [, option, value] of words.matchAll(/--(\S+)[ =](\w+)/g)) {
         if (option === 'max-nest') limits.nest = Number(value);
         else style = value;
     }
-    return { limits, style };
+    return {limits, style, geojson};
 }
 
-function ran(command, given, { limits, style }) {
+function ran(command, given, {limits, style, geojson}) {
     if (command === 'pack') {
-        const [output, said] = outcome(polytwkb.pack, given, style, limits);
+        const [output, said] = outcome(polytwkb.pack, given, {...limits, style});
         return [hex(output), said];
     }
-    if (command === 'unpack') return outcome(polytwkb.unpack, given, limits);
+    if (command === 'unpack') return outcome(geojson ? polytwkb.toGeojson : polytwkb.unpack, given, limits);
     const [output, said] = outcome(polytwkb.show, given, limits);
     return [shown(output), said];
 }
 
-const RUN = /^run polytwkb (pack|unpack|show)((?: --(?:max-nest|style)[ =]\w+)*) < (rows|hex) ?(.*)$/;
+const RUN = /^run polytwkb (pack|unpack|show)((?: --(?:max-nest|style)[ =]\w+| --geojson)*) < (rows|hex) ?(.*)$/;
 
 test('runs of the command', () => {
     let count = 0;
@@ -49,13 +49,13 @@ test('runs of the command', () => {
 
 test('tables and their blobs', () => {
     let count = 0;
-    for (const { word, given, limits, done, expected } of within('tables', 'full', 'plain')) {
-        const [output, refusal] = outcome(polytwkb.pack, table(given), word, limits);
+    for (const {word, given, limits, done, expected} of within('tables', 'full', 'plain')) {
+        const [output, refusal] = outcome(polytwkb.pack, table(given), {...limits, style: word});
         assert.deepEqual([hex(output), refusal], expected, given);
         count++;
         if (refusal) continue;
         assert.equal(polytwkb.unpack(output, limits), table(given));
-        assert.equal(hex(polytwkb.pack(Buffer.from(table(given)), word, limits)), hex(output));
+        assert.equal(hex(polytwkb.pack(Buffer.from(table(given)), {...limits, style: word})), hex(output));
         assert.equal(polytwkb.split(output, limits).length, done);
     }
     assert.ok(count > 60);
@@ -63,7 +63,7 @@ test('tables and their blobs', () => {
 
 test('streams', () => {
     let count = 0;
-    for (const { given, limits, expected } of within('streams', 'unpack')) {
+    for (const {given, limits, expected} of within('streams', 'unpack')) {
         const [output, refusal] = outcome(polytwkb.unpack, bytes(given), limits);
         assert.deepEqual([output.replaceAll('\n', '/'), refusal], expected, given);
         assert.deepEqual(Buffer.from(outcome(polytwkb.unpackBytes, bytes(given), limits)[0]).toString(), output);
@@ -75,7 +75,7 @@ test('streams', () => {
 const isSmall = number => number >= -(2n ** 53n) && number < 2n ** 53n;
 
 function encodesBack(points, numbers, given) {
-    const pairs = Array.from({ length: numbers.length / 2 }, (_, place) => numbers.slice(2 * place, 2 * place + 2));
+    const pairs = Array.from({length: numbers.length / 2}, (_, place) => numbers.slice(2 * place, 2 * place + 2));
     assert.equal(polytwkb.encode(points), given);
     assert.equal(polytwkb.encode(pairs), given);
     if (numbers.every(isSmall)) assert.deepEqual(polytwkb.decode(given), pairs.map(pair => pair.map(Number)));
@@ -101,11 +101,11 @@ test('polylines', () => {
 
 test('blobs of PostGIS', () => {
     assert.equal(postgis.length, 49);
-    for (const { hex: blob, rows, full = blob, plain = blob } of postgis) {
+    for (const {hex: blob, rows, full = blob, plain = blob} of postgis) {
         const text = HEADER + rows.map(row => row + '\n').join('');
         assert.equal(polytwkb.unpack(bytes(blob)), text);
         assert.equal(hex(polytwkb.pack(text)), full);
-        assert.equal(hex(polytwkb.pack(text, 'plain')), plain);
+        assert.equal(hex(polytwkb.pack(text, {style: 'plain'})), plain);
     }
     const blobs = postgis.map(vector => bytes(vector.hex)), stream = Uint8Array.from(Buffer.concat(blobs));
     assert.deepEqual(polytwkb.split(stream).map(hex), blobs.map(hex));

@@ -12,8 +12,8 @@ kit=$(dirname "$(rt doc)")
 module=$(realpath "$1")
 folder=$(realpath -m "$2")
 stack=131072
-# the calls of memory in heap.c, and all functions of calls.c and degrees.c
-exports="buffers kept $(sed -n 's/^u32 \([a-z_]*\)(.*/\1/p' "$here/calls.c" "$here/degrees.c" | tr '\n' ' ')"
+# the calls of memory in heap.c, and all functions of calls.c, degrees.c and lines.c
+exports="buffers kept $(sed -n 's/^u32 \([a-z_]*\)(.*/\1/p' "$here"/{calls,degrees,lines}.c | tr '\n' ' ')"
 heap="rattle_alloc rattle_realloc rattle_dealloc"
 work=$(mktemp -d)
 trap 'rm -rf "$work"' EXIT
@@ -34,7 +34,7 @@ linked() { # OBJECTS FILE EXPORT..
   shift 2
   # shellcheck disable=SC2086 # names of files
   "$work/wasm-ld" -mwasm64 --no-entry --stack-first -z stack-size=$stack --fatal-warnings --strip-all \
-    "${@/#/--export=}" $objects heap.o calls.o -o "$file"
+    "${@/#/--export=}" $objects heap.o calls.o lines.o -o "$file"
 }
 
 retargeted() { # OBJECT OPTION..
@@ -48,10 +48,12 @@ cd "$work"
 "$work/clang" --target=x86_64-unknown-linux-gnu -x ir "$module" -S -emit-llvm -Xclang -disable-llvm-passes -o module.ll
 compiled heap.o heap
 compiled calls.o calls
+compiled lines.o lines
 compiled degrees.o degrees -msimd128
 retargeted library.o
 # shellcheck disable=SC2086 # names of functions
 linked "library.o degrees.o" wide.wasm $exports
+python3 "$here/circles.py" module.ll
 python3 "$here/stack.py" wide.wasm $stack
 python3 "$here/lower.py" wide.wasm polytwkb.wasm
 made=(polytwkb.wasm)

@@ -13,6 +13,12 @@ struct limits {
     u32 nest, nodes, points;
 };
 
+struct options {
+    u32 size, style;
+    struct limits limits;
+    u32 precision, delimiter;
+};
+
 struct row {
     long id;
     u64 points;
@@ -22,24 +28,34 @@ struct row {
     signed char precision;
 };
 
+struct header {
+    u64 offset, length, points;
+    u32 level;
+    byte kind;
+    signed char precision;
+    byte metadata, reserved;
+};
+
 struct report {
     u32 status, reason;
-    u64 place, text_offset, done, sent, needed;
+    u64 place, text_offset, done, sent, needed, taken, taken_points, reserved[2];
 };
 
 struct counts {
     u32 status, reason;
-    u64 place, done, rows, points, needed_rows, needed_points;
+    u64 place, done, rows, points, needed_rows, needed_points, taken, reserved[2];
 };
 
-struct report *polytwkb_pack(struct report *, const byte *, u64, byte *, u64, struct limits *, u32);
-struct report *polytwkb_unpack(struct report *, const byte *, u64, byte *, u64, struct limits *);
-struct report *polytwkb_show(struct report *, const byte *, u64, byte *, u64, struct limits *);
+struct report *polytwkb_convert(struct report *, u32, const byte *, u64, byte *, u64, const u32 *, u64);
+struct report *polytwkb_convert_column(struct report *, u32, const byte *, u64, byte *, u64, const byte *, u64,
+                                       const u32 *, u64);
 struct report *polytwkb_encode(struct report *, const byte *, u64, byte *, u64);
 struct report *polytwkb_decode(struct report *, const byte *, u64, byte *, u64);
 struct report *polytwkb_round(struct report *, const double *, u64, int, long *, u64);
-struct report *polytwkb_write(struct report *, const byte *, u64, const byte *, u64, byte *, u64, struct limits *, u32);
-struct counts *polytwkb_read(struct counts *, const byte *, u64, byte *, u64, byte *, u64, struct limits *);
+struct report *polytwkb_write(struct report *, const byte *, u64, const byte *, u64, byte *, u64, byte *, u64,
+                              struct limits *, u32, u32);
+struct counts *polytwkb_read(struct counts *, const byte *, u64, byte *, u64, byte *, u64, byte *, u64, struct limits *,
+                             u32);
 u64 polytwkb_reason_text(u32, byte *, u64);
 u64 polytwkb_version(byte *, u64);
 

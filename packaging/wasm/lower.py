@@ -11,9 +11,34 @@ validate types, so an address that was not cut does not load.
 import sys
 
 from wasm import (
-    I32, I32_CONST, I32_WRAP, I64, I64_CONST, I64_EXTEND_S, I64_EXTEND_U, LANES, LOADS, LOCAL_GET, LOCAL_SET, LOCAL_TEE,
-    MEMORY_COPY, MEMORY_FILL, MEMORY_GROW, MEMORY_SIZE, STORES, V128, V128_CONST, Reader, bodies, fail, instructions,
-    leb, parameters, sections, signed_leb, vector,
+    I32,
+    I32_CONST,
+    I32_WRAP,
+    I64,
+    I64_CONST,
+    I64_EXTEND_S,
+    I64_EXTEND_U,
+    LANES,
+    LOADS,
+    LOCAL_GET,
+    LOCAL_SET,
+    LOCAL_TEE,
+    MEMORY_COPY,
+    MEMORY_FILL,
+    MEMORY_GROW,
+    MEMORY_SIZE,
+    STORES,
+    V128,
+    V128_CONST,
+    Reader,
+    bodies,
+    fail,
+    instructions,
+    leb,
+    parameters,
+    sections,
+    signed_leb,
+    vector,
 )
 
 PUSHES = {LOCAL_GET, I32_CONST, I64_CONST, V128_CONST}  # instructions that only push a value

@@ -32,13 +32,15 @@ FEATURES = "+bulk-memory,+sign-ext,+mutable-globals,+nontrapping-fptoint"
 
 # Whatever a module may hold: its words but for names, numbers, texts and metadata. Limits are passed by byval, and a
 # report is written where the first argument points: packaging/wasm/calls.c declares the calls accordingly.
-WORDS = set("""
+WORDS = set(
+    """
     private internal constant unnamed_addr zeroinitializer define align noundef zeroext byval
     alloca load store getelementptr inbounds call ret br switch label unreachable select icmp
     add sub mul udiv urem and or xor shl lshr trunc zext sext bitcast ptrtoaddr to
     extractvalue extractelement insertelement shufflevector splat true false null
     eq ne slt sle sge ult ule uge nuw void ptr i1 i8 i16 i32 i64 i128 x
-""".split())
+""".split()
+)
 MARKS = {"!noundef", "!range", "!llvm.ident"}
 DECLARED = """
     { i64, i64 } @rattle_alloc(i64 noundef, i64 noundef)
@@ -63,22 +65,29 @@ ATTRIBUTES = """
 """
 SHUFFLE = "@llvm.x86.ssse3.pshuf.b.128("
 # What pshufb does, a byte at a time.
-SHUFFLE_BYTES = """define internal <16 x i8> @shuffle_bytes(<16 x i8> %bytes, <16 x i8> %places) alwaysinline nounwind {
+SHUFFLE_BYTES = (
+    """define internal <16 x i8> @shuffle_bytes(<16 x i8> %bytes, <16 x i8> %places) alwaysinline nounwind {
   %from = alloca <16 x i8>, align 16
   %to = alloca <16 x i8>, align 16
   store <16 x i8> %bytes, ptr %from, align 16
   %masked = and <16 x i8> %places, splat (i8 15)
   %zero = icmp slt <16 x i8> %places, zeroinitializer
-""" + "".join(f"""  %place.{i} = extractelement <16 x i8> %masked, i32 {i}
+"""
+    + "".join(
+        f"""  %place.{i} = extractelement <16 x i8> %masked, i32 {i}
   %wide.{i} = zext i8 %place.{i} to i64
   %at.{i} = getelementptr i8, ptr %from, i64 %wide.{i}
   %byte.{i} = load i8, ptr %at.{i}, align 1
   %put.{i} = getelementptr i8, ptr %to, i64 {i}
   store i8 %byte.{i}, ptr %put.{i}, align 1
-""" for i in range(16)) + """  %all = load <16 x i8>, ptr %to, align 16
+"""
+        for i in range(16)
+    )
+    + """  %all = load <16 x i8>, ptr %to, align 16
   %result = select <16 x i1> %zero, <16 x i8> zeroinitializer, <16 x i8> %all
   ret <16 x i8> %result
 }"""
+)
 
 TEXT = re.compile(r'c?"(?:[^"\\]|\\.)*"')
 NAME = re.compile(r"[@%][\w.$-]*|#\d+")
@@ -103,7 +112,7 @@ def strange_in(line):
     if line.startswith("attributes #"):
         known = set(ATTRIBUTE.findall(ATTRIBUTES))
         words = line[line.index("{") + 1 : line.rindex("}")].replace(PROCESSOR, "")
-        return [word for word in re.findall(r'\w+\([^)]*\)|[^\s]+', words) if word not in known]
+        return [word for word in re.findall(r"\w+\([^)]*\)|[^\s]+", words) if word not in known]
     if line.startswith(("source_filename = ", "target ", "!")):
         return [] if line in X86 or re.match(r'source_filename = "rattle|!(\d+|llvm\.ident) = ', line) else [line]
     bare = NAME.sub("", TEXT.sub("", line).split(";")[0])

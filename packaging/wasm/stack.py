@@ -1,13 +1,17 @@
 """The most bytes of stack that a call of an export takes: stack.py MODULE.wasm ROOM. It stops if they are more.
 
-No function of the module is called by a pointer, and none calls itself, by way of others or not: the script stops at
-either. So the sum of the frames on the deepest path of calls is the bound.
+No function of the module is called by a pointer: the script stops at such a call. So the bound is the sum of the frames
+on the deepest path of calls. Functions that call themselves, by way of others or not, are those that go through the
+members of collections (circles.py): on a path each is as often as geometries are inside one another.
 """
 import sys
 
+from circles import groups
 from wasm import CALL, GLOBAL_GET, I64_CONST, LOCAL_GET, LOCAL_SET, Reader, bodies, fail, instructions, sections
 
 FRAME = [I64_CONST, 0x7D]  # i64.sub
+# A geometry is in at most 32 collections.
+LEVELS = 33
 
 
 def frame_and_calls(body):
@@ -36,23 +40,23 @@ def exported(content):
             yield name, index
 
 
-def deepest(functions, index, above, bounds):
-    if index in above:
-        fail(f"function {index} calls itself")
-    if index not in bounds:
-        frame, calls = functions[index]
-        bounds[index] = frame + max((deepest(functions, other, above | {index}, bounds) for other in calls), default=0)
-    return bounds[index]
+def bounds_of(functions):
+    """The most bytes of stack that a call of each function takes."""
+    bounds = {}
+    for group, is_circle in groups({number: calls for number, (_, calls) in enumerate(functions)}):
+        frames = sum(functions[number][0] for number in group)
+        others = {other for number in group for other in functions[number][1]}.difference(group)
+        below = max((bounds[other] for other in others), default=0)
+        bounds.update(dict.fromkeys(group, (LEVELS if is_circle else 1) * frames + below))
+    return bounds
 
 
 if __name__ == "__main__":
     with open(sys.argv[1], "rb") as source:
         module = dict(sections(source.read()))
-    functions = [frame_and_calls(body) for _, body in bodies(module[10])]
-    bound, bounds = 0, {}
+    bounds, bound = bounds_of([frame_and_calls(body) for _, body in bodies(module[10])]), 0
     for name, index in exported(module[7]):
-        took = deepest(functions, index, frozenset(), bounds)
-        bound = max(bound, took)
-        print(f"stack of {name}: {took} bytes")
+        bound = max(bound, bounds[index])
+        print(f"stack of {name}: {bounds[index]} bytes")
     if bound > int(sys.argv[2]):
         fail(f"{bound} bytes of stack are more than {sys.argv[2]}")

@@ -1,7 +1,7 @@
 #!/usr/bin/env python3
 """What the steps that make the module of WebAssembly do alone. They refuse whatever was not seen before in a module of
-LLVM, and calls that come back to themselves, that go by a pointer, or that take more stack than there is. What stands
-for pshufb does the same at each index, with SIMD and without.
+LLVM, and calls that come back to themselves but through members of collections, that go by a pointer, or that take more
+stack than there is. What stands for pshufb does the same at each index, with SIMD and without.
 
     packaging/wasm/steps_test.py
 """
@@ -34,7 +34,7 @@ STRANGE = [
     "  %r1 = inttoptr i64 %a to ptr",
     "  %r1 = getelementptr inbounds nusw i8, ptr %a0, i64 3",
     "  %r1 = load i8, ptr addrspace(1) %a0, align 1",
-    "  call void asm sideeffect \"\", \"\"()",
+    '  call void asm sideeffect "", ""()',
     "  fence seq_cst",
     "  %r1 = load i8, ptr %a0, align 1, !tbaa !1",
     "define fastcc void @f() {",
@@ -48,11 +48,30 @@ STRANGE = [
     'module asm "nop"',
     "!llvm.linker.options = !{}",
 ]
+CIRCLE = """define void @"{0}"(i64 %n) {{
+  call void @"{1}"(i64 %n)
+  ret void
+}}
+define void @"{1}"(i64 %n) {{
+  %r1 = call i64 @"{2}"(i64 %n)
+  ret void
+}}
+define i64 @"{2}"(i64 %n) {{
+  ret i64 %n
+}}"""
+OF_MEMBERS = "twkb_geojson::geometry_text::put_geometry"
+CALLED = [  # the names of three functions, and whether they may call themselves as they do
+    ("f", "g", "h", True),
+    ("f", "g", "f", False),
+    ("f", "g", "g", False),
+    (OF_MEMBERS, "g", OF_MEMBERS, True),
+    ("f", OF_MEMBERS, "f", True),
+]
 HEAD = "typedef unsigned long u; u f(u n); u g(u n); "
-FAR = "__attribute__((noinline)) u g(u n) { volatile char b[9]; b[0] = 0; return f(n / 2) + b[0]; } "
+FAR = "__attribute__((noinline)) u g(u n) { volatile char b[4000]; b[n] = 0; return f(n / 2) + b[n]; } "
 CODE = {
-    "a function that calls itself": "u f(u n) { volatile char b[9]; b[n] = 0; return n ? f(n / 2) + b[0] : 1; }",
-    "two that call one another": FAR + "u f(u n) { return n ? g(n) + 1 : 1; }",
+    "a function that calls itself, with a large frame": "u f(u n) { volatile char b[4000]; b[n] = 0; return n ? f(n / 2) + b[0] : 1; }",
+    "two that call one another, with large frames": FAR + "u f(u n) { return n ? g(n) + 1 : 1; }",
     "a frame that is too large": "u f(u n) { volatile char b[200000]; b[n] = 1; return b[n / 2]; }",
     "a call by a pointer": "extern u (*p)(u); u (*p)(u); u f(u n) { return p(n) + 1; }",
     "a frame whose size is computed": "u f(u n) { volatile char b[n]; b[0] = 1; return b[n / 2]; }",
@@ -111,6 +130,14 @@ def accepted(code, folder):
     return subprocess.run(words, capture_output=True, check=False).returncode == 0
 
 
+def circles_accepted(names, folder):
+    """Whether a module with these functions, of which the first calls the second and that the third, is accepted."""
+    text = CIRCLE.format(*names)
+    made = written(folder, "it.ll", text[: text.rindex("define")] if names[2] in names[:2] else text)
+    words = [sys.executable, os.path.join(HERE, "circles.py"), made]
+    return subprocess.run(words, capture_output=True, check=False).returncode == 0
+
+
 def shuffles(simd, folder):
     """Whether a shuffle that is retargeted does what pshufb does."""
     text = retarget.retargeted(SHUFFLE.format("\n".join(retarget.X86), retarget.PROCESSOR), simd)
@@ -129,6 +156,7 @@ def main():
     with tempfile.TemporaryDirectory() as folder:
         wrong += [] if accepted(GOOD, folder) else ["refused: a small frame"]
         wrong += [f"accepted: {name}" for name, code in CODE.items() if accepted(code, folder)]
+        wrong += [f"circles of {names}" for *names, may in CALLED if circles_accepted(names, folder) != may]
         wrong += [f"another shuffle, SIMD {simd}" for simd in (True, False) if not shuffles(simd, folder)]
     for line in wrong:
         print(line)

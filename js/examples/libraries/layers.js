@@ -1,5 +1,5 @@
 /** What map libraries take, made of a stream of blobs. The libraries themselves are not part of this package. */
-import { geometries, read } from '../../polytwkb.js';
+import {geometries, read} from '../../polytwkb.js';
 
 const LINESTRING = 2;
 
@@ -8,10 +8,10 @@ const LINESTRING = 2;
  * coordinates and the places at which lines begin are the arrays of `read`: nothing is copied.
  */
 export function deckPaths(blobs) {
-    const { kinds, offsets, xy } = read(blobs);
+    const {kinds, offsets, xy} = read(blobs);
     const other = kinds.findIndex(kind => kind !== LINESTRING);
     if (other >= 0) throw new RangeError(`row ${other} is no linestring`);
-    return { length: kinds.length, startIndices: offsets, attributes: { getPath: { value: xy, size: 2 } } };
+    return {length: kinds.length, startIndices: offsets, attributes: {getPath: {value: xy, size: 2}}};
 }
 
 /**
@@ -20,9 +20,11 @@ export function deckPaths(blobs) {
  * takes it.
  */
 export function featureCollection(blobs, propertiesOf = () => ({})) {
-    const features = geometries(blobs).map((geometry, at) => ({ type: 'Feature', properties: propertiesOf(at), geometry }));
-    return { type: 'FeatureCollection', features };
+    const features =
+        geometries(blobs).map((geometry, at) => ({type: 'Feature', properties: propertiesOf(at), geometry}));
+    return {type: 'FeatureCollection', features};
 }
 
 /** A source of MapLibre: `map.addSource('routes', mapLibreSource(blobs))`. */
-export const mapLibreSource = (blobs, propertiesOf) => ({ type: 'geojson', data: featureCollection(blobs, propertiesOf) });
+export const mapLibreSource = (blobs, propertiesOf) =>
+    ({type: 'geojson', data: featureCollection(blobs, propertiesOf)});
