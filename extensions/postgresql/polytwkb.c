@@ -11,10 +11,12 @@
 #include "funcapi.h"
 #include "miscadmin.h"
 #include "utils/builtins.h"
+#include "utils/geo_decls.h"
 #include "utils/memutils.h"
 
-#include "geojson.h"
+#include "box.h"
 #include "packing.h"
+#include "wkb.h"
 
 PG_MODULE_MAGIC;
 
@@ -23,7 +25,11 @@ static void *twkb_grown(void *memory, size_t size) {
     return memory ? repalloc_huge(memory, size) : MemoryContextAllocHuge(CurrentMemoryContext, size);
 }
 static void twkb_give_back(void *memory) { pfree(memory); }
-static void twkb_pause(void) { CHECK_FOR_INTERRUPTS(); }
+static bool twkb_pause(void *database) {
+    (void)database;
+    CHECK_FOR_INTERRUPTS();
+    return false;
+}
 
 /* Raises the error of a call that did not end well: state is that of a refusal. */
 static void check_end(twkb_end end, const twkb_fault_text *fault, int state) {
@@ -86,12 +92,42 @@ Datum twkb_polyline(PG_FUNCTION_ARGS) {
 
 PG_FUNCTION_INFO_V1(twkb_geojson);
 Datum twkb_geojson(PG_FUNCTION_ARGS) {
+    bytea *blob = PG_GETARG_BYTEA_PP(0);
+    twkb_output output = {.front = VARHDRSZ};
+    twkb_fault_text fault;
+    check_end(twkb_put_geojson(bytes_of(blob), VARSIZE_ANY_EXHDR(blob), NULL, &output, &fault), &fault, REFUSED_BLOB);
+    twkb_shrink(&output);
+    PG_RETURN_DATUM(value_of(output.memory, output.length));
+}
+
+/* The box as the server's own type, which a GiST index takes. */
+PG_FUNCTION_INFO_V1(twkb_box_of_blob);
+Datum twkb_box_of_blob(PG_FUNCTION_ARGS) {
     twkb_small small;
     twkb_arrays found = arrays_of(PG_GETARG_BYTEA_PP(0), &small);
-    twkb_text text = {.bytes = palloc(256), .length = VARHDRSZ, .room = 256};
-    check_end(twkb_put_geojson(&text, &found), NULL, REFUSED_BLOB);
+    twkb_box ends;
+    bool has_points = twkb_box_of(&found, &ends);
     twkb_free_arrays(&found);
-    PG_RETURN_DATUM(value_of(text.bytes, text.length - VARHDRSZ));
+    if (!has_points) PG_RETURN_NULL();
+    BOX *box = palloc(sizeof *box);
+    *box = (BOX){.high = {ends.maxx, ends.maxy}, .low = {ends.minx, ends.miny}};
+    PG_RETURN_BOX_P(box);
+}
+
+PG_FUNCTION_INFO_V1(twkb_wkb_of_blob);
+Datum twkb_wkb_of_blob(PG_FUNCTION_ARGS) {
+    twkb_small small;
+    twkb_fault_text fault;
+    bool drops;
+    text *word = PG_GETARG_TEXT_PP(1);
+    check_end(twkb_set_drop(VARDATA_ANY(word), VARSIZE_ANY_EXHDR(word), &drops, &fault), &fault, REFUSED_VALUE);
+    twkb_arrays found = arrays_of(PG_GETARG_BYTEA_PP(0), &small);
+    twkb_output output = {.front = VARHDRSZ, .length = twkb_wkb_lengths(&found)};
+    if (!drops) check_end(twkb_without_ids(&found, &fault), &fault, REFUSED_VALUE);
+    if (!twkb_make_room(&output, output.length)) check_end(TWKB_NO_MEMORY, NULL, REFUSED_VALUE);
+    twkb_put_wkb(output.memory + VARHDRSZ, &found, NULL);
+    twkb_free_arrays(&found);
+    PG_RETURN_DATUM(value_of(output.memory, output.length));
 }
 
 /* ---- sets */
@@ -139,8 +175,11 @@ Datum twkb_rows(PG_FUNCTION_ARGS) {
             false, false, !row->has_id, row->precision == POLYTWKB_NO_PRECISION, !twkb_has_points(row->kind),
         };
         Datum values[] = {
-            Int32GetDatum((int32)row->depth), kind_value(row->kind, &kind), Int64GetDatum(row->id),
-            Int32GetDatum(row->precision), nulls[4] ? (Datum)0 : polyline_of(points, row->points, &output),
+            Int32GetDatum((int32)row->depth),
+            kind_value(row->kind, &kind),
+            Int64GetDatum(row->id),
+            Int32GetDatum(row->precision),
+            nulls[4] ? (Datum)0 : polyline_of(points, row->points, &output),
         };
         tuplestore_putvalues(set, columns, values, nulls);
         points += row->points;
@@ -154,26 +193,26 @@ Datum twkb_rows(PG_FUNCTION_ARGS) {
 PG_FUNCTION_INFO_V1(twkb_show);
 Datum twkb_show(PG_FUNCTION_ARGS) {
     bytea *blob = PG_GETARG_BYTEA_PP(0);
-    twkb_output lines = {0};
+    twkb_output output = {0};
     twkb_fault_text fault;
-    twkb_header header;
+    kind_text kind;
     bool nulls[7] = {false};
-    check_end(twkb_put_headers(bytes_of(blob), VARSIZE_ANY_EXHDR(blob), &lines, &fault), &fault, REFUSED_BLOB);
+    check_end(twkb_put_headers(bytes_of(blob), VARSIZE_ANY_EXHDR(blob), &output, &fault), &fault, REFUSED_BLOB);
+    const polytwkb_header *headers = (const polytwkb_header *)output.memory;
     TupleDesc columns;
     Tuplestorestate *set = begin_set(fcinfo, &columns);
-    for (const char *at = (const char *)lines.memory, *end = at + lines.length; at < end;) {
-        at = twkb_take_header(at, &header);
-        text *kind = cstring_to_text_with_len(header.kind, (int)header.kind_length);
+    for (size_t place = 0; place < output.length / sizeof *headers; place++) {
+        const polytwkb_header *header = &headers[place];
         Datum values[] = {
-            Int32GetDatum((int32)header.level), Int64GetDatum(header.offset), PointerGetDatum(kind),
-            Int32GetDatum((int32)header.precision), Int32GetDatum((int32)header.metadata), Int64GetDatum(header.length),
-            Int64GetDatum(header.points),
+            Int32GetDatum((int32)header->level),  Int64GetDatum((int64)header->offset),
+            kind_value(header->kind, &kind),      Int32GetDatum(header->precision),
+            Int32GetDatum(header->metadata),      Int64GetDatum((int64)header->length),
+            Int64GetDatum((int64)header->points),
         };
         tuplestore_putvalues(set, columns, values, nulls);
-        pfree(kind);
         CHECK_FOR_INTERRUPTS();
     }
-    pfree(lines.memory);
+    pfree(output.memory);
     return (Datum)0;
 }
 
@@ -219,6 +258,29 @@ Datum twkb_pack_one(PG_FUNCTION_ARGS) {
     return packed(fcinfo, &packing, true);
 }
 
+static void take_style(FunctionCallInfo fcinfo, int place, twkb_packing *packing) {
+    if (!PG_ARGISNULL(place)) {
+        text *word = PG_GETARG_TEXT_PP(place);
+        if (twkb_set_style(packing, VARDATA_ANY(word), VARSIZE_ANY_EXHDR(word))) return;
+    }
+    ereport(ERROR, (errcode(REFUSED_VALUE), errmsg("polytwkb: %s", twkb_bad_style)));
+}
+
+PG_FUNCTION_INFO_V1(twkb_from_wkb);
+Datum twkb_from_wkb(PG_FUNCTION_ARGS) {
+    bytea *wkb = PG_GETARG_BYTEA_PP(0);
+    int32 precision = PG_GETARG_INT32(1);
+    twkb_fault_text fault;
+    twkb_wkb it = {.bytes = bytes_of(wkb), .length = VARSIZE_ANY_EXHDR(wkb), .fault = &fault};
+    if (precision < -8 || precision > 7) {
+        check_end(twkb_refuse_words(POLYTWKB_BAD_PRECISION, &fault), &fault, REFUSED_VALUE);
+    }
+    it.precision = (int8_t)precision;
+    take_style(fcinfo, 2, &it.packing);
+    check_end(twkb_read_wkb(&it), &fault, REFUSED_BLOB);
+    return packed(fcinfo, &it.packing, true);
+}
+
 /* The rows so far, in memory that lives as long as the aggregate does. */
 static twkb_packing *packing_of(FunctionCallInfo fcinfo, MemoryContext *context) {
     if (!AggCheckCallContext(fcinfo, context)) elog(ERROR, "twkb_pack_step is a part of an aggregate");
@@ -234,21 +296,13 @@ static bool is_no_row(FunctionCallInfo fcinfo) {
     return true;
 }
 
-static void take_style(FunctionCallInfo fcinfo, twkb_packing *packing) {
-    if (!PG_ARGISNULL(6)) {
-        text *word = PG_GETARG_TEXT_PP(6);
-        if (twkb_set_style(packing, VARDATA_ANY(word), VARSIZE_ANY_EXHDR(word))) return;
-    }
-    ereport(ERROR, (errcode(REFUSED_VALUE), errmsg("polytwkb: a style is 'full' or 'plain', the same for all rows")));
-}
-
 PG_FUNCTION_INFO_V1(twkb_pack_step);
 Datum twkb_pack_step(PG_FUNCTION_ARGS) {
     MemoryContext context, before;
     twkb_packing *packing = packing_of(fcinfo, &context);
     twkb_values row = {.depth = TWKB_NO_NUMBER};
     if (is_no_row(fcinfo)) PG_RETURN_POINTER(packing);
-    if (PG_NARGS() == 7) take_style(fcinfo, packing);
+    if (PG_NARGS() == 7) take_style(fcinfo, 6, packing);
     take_common(fcinfo, 2, 4, 5, &row);
     if (!PG_ARGISNULL(1)) row.depth = PG_GETARG_INT32(1);
     row.has_id = !PG_ARGISNULL(3);

@@ -8,9 +8,21 @@ CREATE FUNCTION twkb_fault(blob bytea) RETURNS text
 CREATE FUNCTION twkb_polyline(blob bytea) RETURNS text
     AS 'MODULE_PATHNAME', 'twkb_polyline' LANGUAGE C IMMUTABLE STRICT PARALLEL SAFE COST 100;
 
--- The geometry as GeoJSON, with as many decimals as its precision.
+-- The geometry as GeoJSON, with exact decimals.
 CREATE FUNCTION twkb_geojson(blob bytea) RETURNS text
     AS 'MODULE_PATHNAME', 'twkb_geojson' LANGUAGE C IMMUTABLE STRICT PARALLEL SAFE COST 200;
+
+-- The least box around all points, in degrees; NULL if there are none. A GiST index takes it.
+CREATE FUNCTION twkb_box(blob bytea) RETURNS box
+    AS 'MODULE_PATHNAME', 'twkb_box_of_blob' LANGUAGE C IMMUTABLE STRICT PARALLEL SAFE COST 100;
+
+-- The geometry as WKB. Ids are refused, or with 'drop' left out.
+CREATE FUNCTION twkb_wkb(blob bytea, ids text DEFAULT 'refuse') RETURNS bytea
+    AS 'MODULE_PATHNAME', 'twkb_wkb_of_blob' LANGUAGE C IMMUTABLE STRICT PARALLEL SAFE COST 100;
+
+-- The blob of WKB or EWKB, whose coordinates are rounded to a precision.
+CREATE FUNCTION twkb_from_wkb(wkb bytea, "precision" int, style text DEFAULT 'full') RETURNS bytea
+    AS 'MODULE_PATHNAME', 'twkb_from_wkb' LANGUAGE C IMMUTABLE STRICT PARALLEL SAFE COST 100;
 
 -- The rows of the blob's table, in their order.
 CREATE FUNCTION twkb_rows(blob bytea, OUT depth int, OUT kind text, OUT id bigint, OUT "precision" int, OUT polyline text)
@@ -46,3 +58,18 @@ CREATE AGGREGATE twkb_pack(depth int, kind text, id bigint, "precision" int, pol
 CREATE AGGREGATE twkb_pack(depth int, kind text, id bigint, "precision" int, polyline text, style text) (
     SFUNC = twkb_pack_step, STYPE = internal, FINALFUNC = twkb_pack_final, PARALLEL = SAFE
 );
+
+COMMENT ON FUNCTION twkb_fault(bytea) IS 'NULL if the value is exactly one TWKB blob, otherwise byte and reason of its first fault';
+COMMENT ON FUNCTION twkb_polyline(bytea) IS 'the encoded polyline of a point or linestring in TWKB, NULL for other kinds';
+COMMENT ON FUNCTION twkb_geojson(bytea) IS 'a geometry in TWKB as text of GeoJSON';
+COMMENT ON FUNCTION twkb_box(bytea) IS 'the least box around the points of a geometry in TWKB, in degrees, NULL if it has none';
+COMMENT ON FUNCTION twkb_wkb(bytea, text) IS 'a geometry in TWKB as WKB; ids are refused, or with ''drop'' left out';
+COMMENT ON FUNCTION twkb_from_wkb(bytea, int, text) IS 'a geometry in WKB or EWKB as TWKB of a precision, in the style ''full'' or ''plain''';
+COMMENT ON FUNCTION twkb_rows(bytea) IS 'the rows of a geometry in TWKB, with their encoded polylines';
+COMMENT ON FUNCTION twkb_show(bytea) IS 'the headers of a geometry in TWKB';
+COMMENT ON FUNCTION twkb_pack(text, int, text) IS 'TWKB of one row: kind, precision, encoded polyline';
+COMMENT ON FUNCTION twkb_pack_step(internal, int, text, bigint, int, text) IS 'a part of the aggregate twkb_pack';
+COMMENT ON FUNCTION twkb_pack_step(internal, int, text, bigint, int, text, text) IS 'a part of the aggregate twkb_pack';
+COMMENT ON FUNCTION twkb_pack_final(internal) IS 'a part of the aggregate twkb_pack';
+COMMENT ON AGGREGATE twkb_pack(int, text, bigint, int, text) IS 'TWKB of the rows of one geometry, in their order';
+COMMENT ON AGGREGATE twkb_pack(int, text, bigint, int, text, text) IS 'TWKB of the rows of one geometry, in the style ''full'' or ''plain''';

@@ -1,11 +1,12 @@
 /*
- * What both databases do with a blob: whether a value is exactly one, its rows and points, its headers, and the texts
- * of faults. Each database includes this and gives the four functions that are declared first. All else is calls of the
+ * What both databases do with a blob: whether a value is exactly one, its rows and points, its headers, its GeoJSON, and
+ * the texts of faults. Each database includes this and gives the four functions that are declared first. All else is calls of the
  * library.
  */
 #ifndef POLYTWKB_BLOB_H
 #define POLYTWKB_BLOB_H
 
+#include <math.h>
 #include <stdbool.h>
 #include <stdio.h>
 #include <string.h>
@@ -17,11 +18,14 @@ static void *twkb_take(size_t size);
 static void *twkb_grown(void *memory, size_t size);
 static void twkb_give_back(void *memory);
 
-/* Called between pieces of work that take long, so that a statement can be cancelled there. */
-static void twkb_pause(void);
+/*
+ * Called between pieces of work that take long, so that a statement can be cancelled there: the call does not return, or
+ * says that it is. `database` is the connection, or NULL where it is not known.
+ */
+static bool twkb_pause(void *database);
 
 /* How a call ended. */
-typedef enum { TWKB_DONE, TWKB_REFUSED, TWKB_NO_MEMORY } twkb_end;
+typedef enum { TWKB_DONE, TWKB_REFUSED, TWKB_NO_MEMORY, TWKB_CANCELLED } twkb_end;
 
 /* A fault as text, such as "byte 4: coordinate out of range". */
 typedef struct {
@@ -31,13 +35,15 @@ typedef struct {
 static const char twkb_bytes_after[] = "bytes after the blob";
 
 /* Words of kinds, by their numbers. */
-#define TWKB_WORD(word) {word, sizeof(word) - 1}
+#define TWKB_WORD(word)                                                                                                \
+    { word, sizeof(word) - 1 }
 static const struct {
     const char *word;
     size_t length;
 } twkb_kinds[] = {
-    TWKB_WORD(""), TWKB_WORD("point"), TWKB_WORD("linestring"), TWKB_WORD("polygon"), TWKB_WORD("multipoint"),
-    TWKB_WORD("multilinestring"), TWKB_WORD("multipolygon"), TWKB_WORD("collection"), TWKB_WORD("ring"),
+    TWKB_WORD(""),           TWKB_WORD("point"),           TWKB_WORD("linestring"),   TWKB_WORD("polygon"),
+    TWKB_WORD("multipoint"), TWKB_WORD("multilinestring"), TWKB_WORD("multipolygon"), TWKB_WORD("collection"),
+    TWKB_WORD("ring"),
 };
 
 /* The number of a kind, 0 if the word is none. */
@@ -48,9 +54,18 @@ static uint16_t twkb_kind_of(const char *word, size_t length) {
     return 0;
 }
 
+/* More than a geometry of the library has: a polygon of a multipolygon, inside 32 collections, has rings. */
+#define TWKB_MOST_OPEN 40
+
 /* Whether rows of a kind have points of their own. */
 static bool twkb_has_points(uint16_t kind) {
     return kind == POLYTWKB_KIND_POINT || kind == POLYTWKB_KIND_LINESTRING || kind == POLYTWKB_KIND_RING;
+}
+
+/* A coordinate in degrees, or in the unit that its units are decimals of. */
+static double twkb_degrees(int64_t units, int precision) {
+    static const double powers[] = {1, 1e1, 1e2, 1e3, 1e4, 1e5, 1e6, 1e7, 1e8};
+    return precision >= 0 ? (double)units / powers[precision] : (double)units * powers[-precision];
 }
 
 static twkb_end twkb_refuse_byte(uint64_t place, uint32_t reason, twkb_fault_text *fault) {
@@ -60,50 +75,15 @@ static twkb_end twkb_refuse_byte(uint64_t place, uint32_t reason, twkb_fault_tex
     return TWKB_REFUSED;
 }
 
-/* A header of TWKB, from a line of `polytwkb_show`. */
-typedef struct {
-    const char *kind;
-    size_t kind_length;
-    int64_t level, offset, precision, metadata, length, points;
-} twkb_header;
-
-/* Takes a whole number and the character after it. */
-static int64_t twkb_number(const char **at, int base) {
-    bool is_negative = **at == '-';
-    int64_t number = 0;
-    for (*at += is_negative; **at != ' ' && **at != '\n'; ++*at) {
-        number = number * base + (**at <= '9' ? **at - '0' : **at - 'A' + 10);
-    }
-    ++*at;
-    return is_negative ? -number : number;
-}
-
-/* Takes a line of `polytwkb_show`, which has the form of docs/FORMATS.md. */
-static const char *twkb_take_header(const char *at, twkb_header *header) {
-    header->level = twkb_number(&at, 10);
-    header->offset = twkb_number(&at, 10);
-    header->kind = at;
-    header->kind_length = strcspn(at, " ");
-    at += header->kind_length + 1;
-    header->precision = twkb_number(&at, 10);
-    header->metadata = twkb_number(&at, 16);
-    header->length = twkb_number(&at, 10);
-    header->points = twkb_number(&at, 10);
-    return at;
-}
-
 /* Refuses a value that begins with a blob and goes on: the place is the first byte after the blob. */
 static twkb_end twkb_refuse_bytes_after(const uint8_t *blob, size_t length, twkb_fault_text *fault) {
-    /* a line has fewer than 80 characters, and an output that is too small is full */
-    char line[80];
-    twkb_header header;
-    polytwkb_report report =
-        polytwkb_show(blob, length, (uint8_t *)line, sizeof line, polytwkb_standard_limits());
+    /* the first header of a value is that of its first blob, and an output that is too small is full */
+    polytwkb_header first;
+    polytwkb_report report = polytwkb_convert(POLYTWKB_HEADERS, blob, length, (uint8_t *)&first, sizeof first, NULL);
     if (report.status == POLYTWKB_MEMORY || (report.status == POLYTWKB_TOO_SMALL && report.needed == 0)) {
         return TWKB_NO_MEMORY;
     }
-    twkb_take_header(line, &header);
-    snprintf(fault->text, sizeof fault->text, "byte %lld: %s", (long long)header.length, twkb_bytes_after);
+    snprintf(fault->text, sizeof fault->text, "byte %llu: %s", (unsigned long long)first.length, twkb_bytes_after);
     return TWKB_REFUSED;
 }
 
@@ -124,7 +104,7 @@ static twkb_end twkb_check_prefixes(const uint8_t *blob, size_t length, twkb_fau
             polytwkb_measure(POLYTWKB_SHOW, blob, prefix, polytwkb_standard_limits(), POLYTWKB_FULL);
         if (report.status == POLYTWKB_MEMORY) return TWKB_NO_MEMORY;
         if (report.done > 0) return twkb_refuse_bytes_after(blob, prefix, fault);
-        twkb_pause();
+        if (twkb_pause(NULL)) return TWKB_CANCELLED;
     }
     return TWKB_DONE;
 }
@@ -150,7 +130,8 @@ static void twkb_free_arrays(twkb_arrays *found) {
 
 static polytwkb_counts twkb_read_small(const uint8_t *blob, size_t length, twkb_small *small) {
     const size_t rows = sizeof small->rows / sizeof *small->rows, points = sizeof small->points / sizeof *small->points;
-    return polytwkb_read(blob, length, small->rows, rows, small->points, points, polytwkb_standard_limits());
+    return polytwkb_read(blob, length, small->rows, rows, small->points, points, NULL, 0, polytwkb_standard_limits(),
+                         0);
 }
 
 /* Reads a blob into a block for as many rows and points as are needed, and no more than one blob may have. */
@@ -162,7 +143,7 @@ static twkb_end twkb_read_large(const uint8_t *blob, size_t length, polytwkb_cou
     if (!found->block) return TWKB_NO_MEMORY;
     polytwkb_row *rows = found->block;
     polytwkb_point *points = (polytwkb_point *)(rows + row_room);
-    *counts = polytwkb_read(blob, length, rows, row_room, points, point_room, limits);
+    *counts = polytwkb_read(blob, length, rows, row_room, points, point_room, NULL, 0, limits, 0);
     found->rows = rows, found->points = points;
     return TWKB_DONE;
 }
@@ -175,7 +156,7 @@ static twkb_end twkb_read(const uint8_t *blob, size_t length, twkb_small *small,
     if (end != TWKB_DONE) return end;
     polytwkb_counts counts = twkb_read_small(blob, length, small);
     if (counts.status == POLYTWKB_TOO_SMALL && counts.done == 0) {
-        twkb_pause();
+        if (twkb_pause(NULL)) return TWKB_CANCELLED;
         if (twkb_read_large(blob, length, &counts, found) != TWKB_DONE) return TWKB_NO_MEMORY;
     }
     found->row_count = counts.rows, found->point_count = counts.points;
@@ -186,6 +167,12 @@ static twkb_end twkb_read(const uint8_t *blob, size_t length, twkb_small *small,
 
 /* Values up to this length are short. */
 #define TWKB_SHORT 4096
+
+/* After a call that wrote more bytes the database is asked whether to go on. */
+#define TWKB_PAUSE (1 << 20)
+
+/* The most bytes of a first guess at a text. */
+#define TWKB_MOST_GUESSED ((size_t)1 << 29)
 
 /* Whether a value is exactly one blob. To read a short one takes less time than to measure its headers. */
 static twkb_end twkb_check(const uint8_t *blob, size_t length, twkb_fault_text *fault) {
@@ -198,8 +185,7 @@ static twkb_end twkb_check(const uint8_t *blob, size_t length, twkb_fault_text *
     }
     twkb_end end = twkb_check_prefixes(blob, length, fault);
     if (end != TWKB_DONE) return end;
-    polytwkb_report report =
-        polytwkb_measure(POLYTWKB_SHOW, blob, length, polytwkb_standard_limits(), POLYTWKB_FULL);
+    polytwkb_report report = polytwkb_measure(POLYTWKB_SHOW, blob, length, polytwkb_standard_limits(), POLYTWKB_FULL);
     return twkb_one_blob(blob, length, report.status, report.reason, report.place, report.done, fault);
 }
 
@@ -218,6 +204,13 @@ static bool twkb_make_room(twkb_output *output, size_t room) {
     return output->memory != NULL;
 }
 
+/* Gives back what a text does not need of its memory, if that is much. */
+static void twkb_shrink(twkb_output *output) {
+    if (output->room - output->length < TWKB_SHORT) return;
+    void *memory = twkb_grown(output->memory, output->front + output->length + 1);
+    if (memory) output->memory = memory, output->room = output->length;
+}
+
 /* A first guess at the length of a polyline: a number has at most 13 characters, and few have more than six. */
 static size_t twkb_polyline_guess(uint64_t count) { return count <= 64 ? 26 * count : 26 + 12 * count; }
 
@@ -233,22 +226,44 @@ static twkb_end twkb_put_polyline(const polytwkb_point *points, uint64_t count, 
     }
 }
 
-/* Writes the lines of the headers of a value that is exactly one blob. */
-static twkb_end twkb_put_headers(const uint8_t *blob, size_t length, twkb_output *output, twkb_fault_text *fault) {
-    size_t room = 2 * (length < TWKB_SHORT ? length : TWKB_SHORT) + 80;
-    twkb_end end = length > TWKB_SHORT ? twkb_check(blob, length, fault) : TWKB_DONE;
+/*
+ * Writes what a conversion makes of a value that is exactly one blob, after a first guess at the room for that, if there
+ * is so much memory. What the library does in one call can't be cancelled, so the database is asked after it.
+ */
+static twkb_end twkb_convert_one(uint32_t conversion, const uint8_t *blob, size_t length, size_t room, void *database,
+                                 twkb_output *output, twkb_fault_text *fault) {
+    twkb_end end = twkb_check_prefixes(blob, length, fault);
     if (end != TWKB_DONE) return end;
-    for (;;) {
-        if (!twkb_make_room(output, room)) return TWKB_NO_MEMORY;
-        polytwkb_report report = polytwkb_show(blob, length, output->memory + output->front, output->room,
-                                               polytwkb_standard_limits());
+    for (bool is_guess = true;; is_guess = false) {
+        if (!twkb_make_room(output, room) && !(is_guess && twkb_make_room(output, 0))) return TWKB_NO_MEMORY;
+        polytwkb_report report =
+            polytwkb_convert(conversion, blob, length, output->memory + output->front, output->room, NULL);
         output->length = report.sent;
-        if (report.status != POLYTWKB_TOO_SMALL) {
+        if (report.needed > TWKB_PAUSE && twkb_pause(database)) return TWKB_CANCELLED;
+        if (report.status != POLYTWKB_TOO_SMALL || report.done > 0) {
             return twkb_one_blob(blob, length, report.status, report.reason, report.place, report.done, fault);
         }
         if (report.needed == 0) return TWKB_NO_MEMORY;
         room = report.needed;
     }
+}
+
+/* Writes the headers of a value that is exactly one blob. A blob has one, and one for each member of a collection. */
+static twkb_end twkb_put_headers(const uint8_t *blob, size_t length, twkb_output *output, twkb_fault_text *fault) {
+    return twkb_convert_one(POLYTWKB_HEADERS, blob, length, 16 * sizeof(polytwkb_header), NULL, output, fault);
+}
+
+/*
+ * Writes the GeoJSON of a value that is exactly one blob, without the end of its line. A point of two bytes has up to
+ * some 20 characters, and most have fewer in all than 8 for each byte.
+ */
+static twkb_end twkb_put_geojson(const uint8_t *blob, size_t length, void *database, twkb_output *output,
+                                 twkb_fault_text *fault) {
+    size_t room = (length <= TWKB_SHORT ? 16 : 8) * length + 128;
+    if (room > TWKB_MOST_GUESSED) room = TWKB_MOST_GUESSED;
+    twkb_end end = twkb_convert_one(POLYTWKB_GEOJSON, blob, length, room, database, output, fault);
+    output->length -= end == TWKB_DONE;
+    return end;
 }
 
 #endif

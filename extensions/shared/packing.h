@@ -35,6 +35,7 @@ typedef struct {
 } twkb_packing;
 
 static const char twkb_second[] = "more than one geometry";
+static const char twkb_bad_style[] = "a style is 'full' or 'plain', the same for all rows";
 
 /* The place of a reason among those of a row, in the order in which a row is judged. */
 static uint32_t twkb_rank(uint32_t reason) { return reason >= POLYTWKB_POLYLINE_BAD_CHARACTER ? 15 : reason; }
@@ -163,7 +164,7 @@ static twkb_end twkb_finish(const twkb_packing *it, bool is_only, twkb_output *o
         if (!twkb_make_room(output, room)) return TWKB_NO_MEMORY;
         polytwkb_report report =
             polytwkb_write(it->rows, it->row_count, it->points, it->point_count, output->memory + output->front,
-                           output->room, polytwkb_standard_limits(), it->style);
+                           output->room, NULL, 0, polytwkb_standard_limits(), it->style, 0);
         output->length = report.sent;
         twkb_end end = twkb_judge(it, &report, is_only, fault);
         if (end != TWKB_DONE || report.status == POLYTWKB_DONE) return end;

@@ -5,13 +5,23 @@
 #include <sqlite3ext.h>
 SQLITE_EXTENSION_INIT1
 
-#include "geojson.h"
+#include "box.h"
 #include "packing.h"
+#include "wkb.h"
+
+/* Since 3.45 a function says at its creation that it gives a subtype; older versions take no notice. */
+#ifndef SQLITE_RESULT_SUBTYPE
+#define SQLITE_RESULT_SUBTYPE 0x1000000
+#endif
 
 static void *twkb_take(size_t size) { return sqlite3_malloc64(size); }
 static void *twkb_grown(void *memory, size_t size) { return sqlite3_realloc64(memory, size); }
 static void twkb_give_back(void *memory) { sqlite3_free(memory); }
-static void twkb_pause(void) {}
+
+/* Before 3.41 no call tells that a statement is interrupted, but one that begins meanwhile is interrupted at once. */
+static bool twkb_pause(void *database) {
+    return database && sqlite3_exec(database, "SELECT 1", NULL, NULL, NULL) == SQLITE_INTERRUPT;
+}
 
 /* An error of the statement. */
 static void fail(sqlite3_context *context, const char *words) {
@@ -28,6 +38,7 @@ static void fail(sqlite3_context *context, const char *words) {
 static void fail_by(sqlite3_context *context, twkb_end end, const twkb_fault_text *fault) {
     if (end == TWKB_NO_MEMORY) sqlite3_result_error_nomem(context);
     if (end == TWKB_REFUSED) fail(context, fault->text);
+    if (end == TWKB_CANCELLED) sqlite3_result_error_code(context, SQLITE_INTERRUPT);
 }
 
 /* The bytes of a value that is a blob. What is none is refused, with a fault for it. */
@@ -102,128 +113,61 @@ static void twkb_polyline(sqlite3_context *context, int count, sqlite3_value **v
 }
 
 static void twkb_geojson(sqlite3_context *context, int count, sqlite3_value **values) {
-    twkb_small small;
-    twkb_arrays found;
-    twkb_text text = {0};
-    (void)count;
-    if (!read_value(context, values[0], &small, &found)) return;
-    if (twkb_put_geojson(&text, &found) == TWKB_DONE) {
-        sqlite3_result_text64(context, text.bytes, text.length, sqlite3_free, SQLITE_UTF8);
-    } else {
-        sqlite3_free(text.bytes);
-        sqlite3_result_error_nomem(context);
-    }
-    twkb_free_arrays(&found);
-}
-
-/* ---- functions that pack */
-
-/* The bytes of a text; false if memory is refused. */
-static bool take_text(sqlite3_value *value, const uint8_t **text, size_t *length) {
-    *text = sqlite3_value_text(value);
-    *length = (size_t)sqlite3_value_bytes(value);
-    return *text != NULL;
-}
-
-/* A whole number, or one that is out of range of depths and precisions. */
-static int64_t whole_number(sqlite3_value *value) {
-    return sqlite3_value_type(value) == SQLITE_INTEGER ? sqlite3_value_int64(value) : TWKB_NO_NUMBER;
-}
-
-/* Takes kind, precision and polyline. A kind that is no text is none of the kinds. */
-static twkb_end take_common(sqlite3_value **values, twkb_values *row, twkb_fault_text *fault) {
-    const uint8_t *kind;
-    if (sqlite3_value_type(values[0]) == SQLITE_TEXT) {
-        if (!take_text(values[0], &kind, &row->kind_length)) return TWKB_NO_MEMORY;
-        row->kind = (const char *)kind;
-    }
-    row->has_precision = !is_null(values[1]);
-    row->precision = whole_number(values[1]);
-    if (is_null(values[2])) return TWKB_DONE;
-    if (sqlite3_value_type(values[2]) != SQLITE_TEXT) {
-        sqlite3_snprintf(sizeof fault->text, fault->text, "a polyline is a text");
-        return TWKB_REFUSED;
-    }
-    return take_text(values[2], &row->polyline, &row->polyline_length) ? TWKB_DONE : TWKB_NO_MEMORY;
-}
-
-static void free_packing(twkb_packing *packing) {
-    sqlite3_free(packing->rows);
-    sqlite3_free(packing->points);
-}
-
-/* The blob of the rows, NULL if there are none. */
-static void result_packed(sqlite3_context *context, const twkb_packing *packing, bool is_only) {
+    twkb_fault_text fault;
     twkb_output output = {0};
-    twkb_fault_text fault;
-    twkb_end end = twkb_finish(packing, is_only, &output, &fault);
-    if (end == TWKB_DONE && output.length > 0) {
-        give_blob(context, &output);
-        return;
-    }
-    sqlite3_free(output.memory);
-    fail_by(context, end, &fault);
-}
-
-static void twkb_pack_one(sqlite3_context *context, int count, sqlite3_value **values) {
-    twkb_packing packing = {0};
-    twkb_values row = {0};
-    twkb_fault_text fault;
+    bytes_of_value blob;
     (void)count;
-    if (is_null(values[0]) || is_null(values[1]) || is_null(values[2])) return;
-    twkb_end end = take_common(values, &row, &fault);
-    if (end == TWKB_DONE) end = twkb_put_row(&packing, &row);
+    if (is_null(values[0])) return;
+    twkb_end end = take_blob(values[0], &blob, &fault);
     if (end == TWKB_DONE) {
-        result_packed(context, &packing, true);
+        end = twkb_put_geojson(blob.bytes, blob.length, sqlite3_context_db_handle(context), &output, &fault);
+    }
+    if (end == TWKB_DONE) {
+        twkb_shrink(&output);
+        give_text(context, &output);
+        sqlite3_result_subtype(context, 'J');
     } else {
+        sqlite3_free(output.memory);
         fail_by(context, end, &fault);
     }
-    free_packing(&packing);
 }
 
-/* A row of five NULLs, as an outer join gives it, is no row. */
-static bool is_no_row(sqlite3_value **values) {
-    for (int place = 0; place < 5; place++) {
-        if (!is_null(values[place])) return false;
+/* Whether the second of two arguments says that ids are left out. */
+static twkb_end take_drop(int count, sqlite3_value **values, bool *drops, twkb_fault_text *fault) {
+    const char *word = count < 2 ? "refuse" : NULL;
+    if (count == 2 && sqlite3_value_type(values[1]) == SQLITE_TEXT) {
+        word = (const char *)sqlite3_value_text(values[1]);
+        if (!word) return TWKB_NO_MEMORY;
     }
-    return true;
+    return twkb_set_drop(word, word ? strlen(word) : 0, drops, fault);
 }
 
-static bool take_style(twkb_packing *packing, sqlite3_value *value) {
-    const uint8_t *word;
-    size_t length;
-    return sqlite3_value_type(value) == SQLITE_TEXT && take_text(value, &word, &length) &&
-           twkb_set_style(packing, (const char *)word, length);
-}
-
-static void twkb_pack_step(sqlite3_context *context, int count, sqlite3_value **values) {
+static void twkb_wkb_of(sqlite3_context *context, int count, sqlite3_value **values) {
+    twkb_small small;
+    twkb_arrays found;
     twkb_fault_text fault;
-    if (is_no_row(values)) return;
-    twkb_packing *packing = sqlite3_aggregate_context(context, sizeof *packing);
-    if (!packing) {
-        sqlite3_result_error_nomem(context);
+    twkb_output output = {0};
+    bool drops = false;
+    twkb_end end = take_drop(count, values, &drops, &fault);
+    if (end != TWKB_DONE) {
+        fail_by(context, end, &fault);
         return;
     }
-    if (count == 6 && !take_style(packing, values[5])) {
-        fail(context, "a style is 'full' or 'plain', the same for all rows");
-        return;
+    if (!read_value(context, values[0], &small, &found)) return;
+    end = drops ? TWKB_DONE : twkb_without_ids(&found, &fault);
+    output.length = twkb_wkb_lengths(&found);
+    if (end == TWKB_DONE && !twkb_make_room(&output, output.length)) end = TWKB_NO_MEMORY;
+    if (end == TWKB_DONE) end = twkb_put_wkb(output.memory, &found, sqlite3_context_db_handle(context));
+    twkb_free_arrays(&found);
+    if (end == TWKB_DONE) {
+        give_blob(context, &output);
+    } else {
+        sqlite3_free(output.memory);
+        fail_by(context, end, &fault);
     }
-    twkb_values row = {.depth = whole_number(values[0]), .id = whole_number(values[2])};
-    row.has_id = !is_null(values[2]);
-    row.is_bad_id = row.has_id && sqlite3_value_type(values[2]) != SQLITE_INTEGER;
-    sqlite3_value *common[] = {values[1], values[3], values[4]};
-    twkb_end end = take_common(common, &row, &fault);
-    if (end == TWKB_DONE) end = twkb_put_row(packing, &row);
-    fail_by(context, end, &fault);
 }
 
-static void twkb_pack_final(sqlite3_context *context) {
-    twkb_packing *packing = sqlite3_aggregate_context(context, 0);
-    if (!packing) return;
-    result_packed(context, packing, false);
-    free_packing(packing);
-}
-
+#include "pack.h"
 #include "tables.h"
 
 /* ---- the extension */
@@ -232,18 +176,15 @@ typedef void function(sqlite3_context *, int, sqlite3_value **);
 
 typedef struct {
     const char *name;
-    int count;
-    function *call, *step;
-    void (*final)(sqlite3_context *);
+    int count, flags;
+    function *call;
 } function_form;
 
 static const function_form functions[] = {
-    {"twkb_fault", 1, twkb_fault, NULL, NULL},
-    {"twkb_polyline", 1, twkb_polyline, NULL, NULL},
-    {"twkb_geojson", 1, twkb_geojson, NULL, NULL},
-    {"twkb_pack", 3, twkb_pack_one, NULL, NULL},
-    {"twkb_pack", 5, NULL, twkb_pack_step, twkb_pack_final},
-    {"twkb_pack", 6, NULL, twkb_pack_step, twkb_pack_final},
+    {"twkb_fault", 1, 0, twkb_fault},       {"twkb_polyline", 1, 0, twkb_polyline},
+    {"twkb_pack", 3, 0, twkb_pack_one},     {"twkb_geojson", 1, SQLITE_RESULT_SUBTYPE, twkb_geojson},
+    {"twkb_wkb", 1, 0, twkb_wkb_of},        {"twkb_wkb", 2, 0, twkb_wkb_of},
+    {"twkb_from_wkb", 2, 0, twkb_from_wkb}, {"twkb_from_wkb", 3, 0, twkb_from_wkb},
 };
 
 /* SQLite finds this by the name of the file. */
@@ -254,8 +195,12 @@ int sqlite3_modpolytwkb_init(sqlite3 *database, char **error, const sqlite3_api_
     SQLITE_EXTENSION_INIT2(routines);
     for (size_t place = 0; place < sizeof functions / sizeof *functions && code == SQLITE_OK; place++) {
         const function_form *it = &functions[place];
-        code = sqlite3_create_function_v2(database, it->name, it->count, flags, NULL, it->call, it->step, it->final,
+        code = sqlite3_create_function_v2(database, it->name, it->count, flags | it->flags, NULL, it->call, NULL, NULL,
                                           NULL);
+    }
+    for (int count = 5; count <= 6 && code == SQLITE_OK; count++) {
+        code = sqlite3_create_window_function(database, "twkb_pack", count, flags, NULL, twkb_pack_step,
+                                              twkb_pack_final, twkb_pack_value, twkb_pack_inverse, NULL);
     }
     for (size_t place = 0; place < sizeof forms / sizeof *forms && code == SQLITE_OK; place++) {
         code = sqlite3_create_module_v2(database, forms[place].name, &table_module, (void *)&forms[place], NULL);

@@ -1,7 +1,28 @@
 """What the functions of both databases must say of a case, and GeoJSON beside the second implementation."""
 import json
+import random
 from decimal import Decimal
-from fractions import Fraction
+
+import wkb
+from geojson import text_of
+
+NO_IDS = "polytwkb: row {}: an id, which WKB cannot have: 'drop' leaves ids out"
+
+
+def ids_refused(case):
+    """What twkb_wkb says of a blob with ids; None of one without."""
+    first = next((place for place, row in enumerate(case.rows, 1) if row[2] is not None), None)
+    return first and NO_IDS.format(first)
+
+
+def exchanged(case):
+    """Of a case whose coordinates doubles have: its WKB, and its box. Of one that comes back from WKB also that WKB in some
+    spelling, its precision, and its blob."""
+    if case.fault or not wkb.is_exact(case.tree):
+        return None
+    back = wkb.packed_of(case.tree, "full")
+    given = back and (wkb.wkb_of(case.tree, wkb.Heads(random.Random(case.value))), *back)
+    return wkb.wkb_of(case.tree), wkb.box_of(case.tree), given
 
 
 def expected_of(case):
@@ -23,31 +44,25 @@ def differing(case, answers):
     return faults
 
 
-def numbers_of(coordinates):
-    """All coordinates, flat."""
-    if not isinstance(coordinates, (list, tuple)):
-        return [coordinates]
-    return [number for part in coordinates for number in numbers_of(part)]
+def former_text_of(mapping, precision):
+    """The text that twkb_geojson wrote before: as many decimals as the precision has, and ids last."""
 
+    def decimal_before(number):
+        shown = max(precision[0], 0)
+        digits = str(abs(int(number * 10**shown))).zfill(shown + 1)
+        sign = "-" if number < 0 else ""
+        return sign + (f"{digits[:-shown]}.{digits[-shown:]}" if shown else digits)
 
-def shape_of(coordinates):
-    """The lists of coordinates without their numbers."""
-    return [shape_of(part) for part in coordinates] if isinstance(coordinates, (list, tuple)) else None
+    def array_of(coordinates):
+        return f"[{','.join(map(array_of if isinstance(coordinates, list) else decimal_before, coordinates))}]"
 
-
-def is_same(text, mapping, precision):
-    """Whether an object of GeoJSON is the mapping, with as many decimals as the precision."""
-    if list(text) != [key for key in ("type", "coordinates", "geometries", "ids") if key in mapping] or text["type"] != mapping["type"]:
-        return False
-    if text.get("ids") != mapping.get("ids"):
-        return False
     if "geometries" in mapping:
-        return len(text["geometries"]) == len(mapping["geometries"]) and all(
-            is_same(one, other, one_precision) for one, other, one_precision in zip(text["geometries"], mapping["geometries"], precision[1])
-        )
-    found, expected = numbers_of(text["coordinates"]), numbers_of(mapping["coordinates"])
-    decimals = all(-Decimal(number).as_tuple().exponent == max(precision[0], 0) for number in found)
-    return shape_of(text["coordinates"]) == shape_of(mapping["coordinates"]) and decimals and list(map(Fraction, found)) == expected
+        texts = map(former_text_of, mapping["geometries"], precision[1])
+        members = f'"geometries":[{",".join(texts)}]'
+    else:
+        members = f'"coordinates":{array_of(mapping["coordinates"])}'
+    ids = f',"ids":[{",".join(map(str, mapping["ids"]))}]' if "ids" in mapping else ""
+    return f'{{"type":"{mapping["type"]}",{members}{ids}}}'
 
 
 def precisions_of(headers):
@@ -64,23 +79,15 @@ def precisions_of(headers):
     return tree
 
 
-class Number(str):
-    """A number as it is written."""
-
-
-def with_whole_ids(found):
-    """The object with its ids as whole numbers."""
-    if "ids" in found:
-        found["ids"] = [int(number) for number in found["ids"]]
-    for member in found.get("geometries", ()):
-        with_whole_ids(member)
-    return found
+def values_of(text):
+    """The value of JSON, with exact numbers."""
+    return json.loads(text, parse_float=Decimal, parse_int=Decimal)
 
 
 def geojson_fault(case, text):
-    """The text, if it is not the GeoJSON of the geometry."""
-    found = with_whole_ids(json.loads(text, parse_float=Number, parse_int=Number))
-    return [] if is_same(found, case.mapping, precisions_of(case.headers)) else [("geojson", text)]
+    """The text, if it is not that of the geometry, or has another value than the text that was written before."""
+    before = former_text_of(case.mapping, precisions_of(case.headers))
+    return [] if text == text_of(case.mapping) and values_of(text) == values_of(before) else [("geojson", text)]
 
 
 def shown(case, faults):

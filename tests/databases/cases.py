@@ -36,7 +36,8 @@ class Value(NamedTuple):
     fault: Optional[str]
     rows: Optional[list] = None  # depth, kind, id, precision, polyline
     headers: Optional[list] = None
-    mapping: Optional[dict] = None  # of the second implementation, with exact coordinates
+    tree: Optional[tuple] = None  # of the second implementation
+    mapping: Optional[dict] = None  # the tree with exact coordinates
 
 
 class Rows(NamedTuple):
@@ -70,7 +71,8 @@ class Asked:
             return Value(value, fault or "byte 0: truncated")
         table, _ = self.run(["unpack"], value)
         rows = [row_of(*line.split(",", 4)) for line in table.splitlines()[1:]]
-        return Value(value, None, rows, headers, mapping_of(spelled_in(value, NEST)[0][0]))
+        tree = spelled_in(value, NEST)[0][0]
+        return Value(value, None, rows, headers, tree, mapping_of(tree))
 
     def packed(self, rows, style):
         """The blob of rows. Those of the command are records, of which the header is the first."""
@@ -82,7 +84,9 @@ class Asked:
         if status:
             number, _, reason = errors.decode().rstrip("\n").removeprefix("polytwkb: record ").partition(": ")
             number = int(number) - 1
-        if second is not None and (number is None or number > second + 1 or number == second + 1 and reason != "unknown kind"):
+        if second is not None and (
+            number is None or number > second + 1 or number == second + 1 and reason != "unknown kind"
+        ):
             number, reason = second + 1, "more than one geometry"
         return Rows(rows, style, None, f"row {number}: {reason}") if number else Rows(rows, style, output or None)
 
@@ -96,7 +100,10 @@ def row_of(depth, kind, identifier, precision, polyline):
     """The values of a row of a table. Kinds without points of their own have no polyline."""
     has_points = kind in ("point", "linestring", "ring")
     return (
-        int(depth), kind, int(identifier) if identifier else None, int(precision) if precision else None,
+        int(depth),
+        kind,
+        int(identifier) if identifier else None,
+        int(precision) if precision else None,
         polyline if has_points else None,
     )
 
@@ -194,7 +201,11 @@ def cases_of(count, seed):
     cases = list(written(asked))
     chance = random.Random(seed)
     for number in range(count):
-        cases.append(asked.value(some_value(chance)) if number % 2 else asked.packed(some_rows(chance), chance.choice(("full", "plain"))))
+        cases.append(
+            asked.value(some_value(chance))
+            if number % 2
+            else asked.packed(some_rows(chance), chance.choice(("full", "plain")))
+        )
     return cases
 
 

@@ -57,6 +57,14 @@ static const char *const statements[] = {
     "SELECT hex(twkb_pack(column1, column2, column3, column4, column5, 'plain')) FROM " LINE,
     "SELECT length(twkb_geojson(b)), length(twkb_polyline(b)), twkb_fault(b), length(b) FROM "
     "(SELECT twkb_pack('linestring', -2, replace(hex(zeroblob(1100)), '0', 'AC')) AS b)",
+    "SELECT group_concat(hex(blob) || minx || maxx || miny || maxy) FROM twkb_box(" BLOB ")",
+    "SELECT hex(twkb_wkb(" BLOB ", 'drop'))",
+    "SELECT hex(twkb_from_wkb(twkb_wkb(" BLOB ", 'drop'), 3, 'plain'))",
+    "SELECT length(twkb_wkb(b)), length(twkb_from_wkb(twkb_wkb(b), 2)), length(twkb_geojson(b)) FROM "
+    "(SELECT twkb_pack('linestring', 2, replace(hex(zeroblob(1500)), '0', 'AC')) AS b)",
+    "SELECT hex(twkb_pack(column1, column2, column3, column4, column5) OVER (ROWS UNBOUNDED PRECEDING)) FROM " LINE,
+    "SELECT length(twkb_geojson(twkb_pack(min(i, 1), iif(i = 0, 'collection', 'linestring'), NULL, 5, '', 'plain'))) FROM "
+    "(WITH RECURSIVE n(i) AS (VALUES (0) UNION ALL SELECT i + 1 FROM n WHERE i < 60) SELECT i FROM n)",
     "SELECT count(*), max(depth) FROM "
     "(SELECT twkb_pack(min(column1, 1), column2, NULL, iif(column1 = 0, 0, NULL), '') AS b FROM "
     "(WITH RECURSIVE n(i) AS (VALUES (0) UNION ALL SELECT i + 1 FROM n WHERE i < 60) "
@@ -71,6 +79,10 @@ static const char *const refusals[] = {
     "SELECT twkb_pack(0, 'point', NULL, 0, 'AA') FROM (VALUES (1), (2))",
     "SELECT twkb_pack(0, 'point', NULL, 0, 'AA', 'neither')",
     "SELECT * FROM twkb_rows('text')",
+    "SELECT twkb_wkb(" BLOB ")",
+    "SELECT twkb_from_wkb(x'010700000001000000010400000001000000010100000000', 3)",
+    "SELECT max(b) FROM "
+    "(SELECT twkb_pack(column1, column2, column3, column4, column5) OVER (ROWS 0 PRECEDING) AS b FROM " LINE ")",
 };
 
 /* The first row of a statement as text, or its error; the status of SQLite. */

@@ -43,6 +43,14 @@ def largest(connection):
     check(answer(connection, "SELECT count(*), max(length(polyline)) FROM twkb_rows(?)", blob), (1, 2 * MOST))
     check(answer(connection, "SELECT points, length FROM twkb_show(?)", blob), (MOST, len(blob)))
     check(answer(connection, "SELECT length(twkb_geojson(?)) > 20 * ?", blob, MOST), (1,))
+    check(
+        answer(connection, "SELECT minx, maxx, miny, maxy FROM twkb_box(?)", blob), (2e-7, 3.3554432, 1e-7, 1.6777216)
+    )
+    (wkb,) = answer(connection, "SELECT twkb_wkb(?)", blob)
+    check(len(wkb), 9 + 16 * MOST)
+    check(answer(connection, "SELECT twkb_from_wkb(?, 7) = ?", wkb, blob), (1,))
+    more = wkb[:5] + (MOST + 1).to_bytes(4, "little") + wkb[9:] + bytes(16)
+    check(answer(connection, "SELECT twkb_from_wkb(?, 7)", more), "polytwkb: byte 5: too many points")
     check(answer(connection, "SELECT twkb_pack('linestring', 7, ?)", "AC" * (MOST + 1)), "polytwkb: too many points")
     check(answer(connection, "SELECT twkb_fault(x'020081808008')"), ("byte 2: too many points",))
 
@@ -58,10 +66,10 @@ def hostile(connection):
     ):
         value = begin + bytes(60_000_000)
         check(answer(connection, "SELECT twkb_fault(?)", value), (fault,))
-        for call in ("twkb_polyline(?)", "count(*) FROM twkb_show(?)"):
+        for call in ("twkb_polyline(?)", "twkb_geojson(?)", "count(*) FROM twkb_show(?)"):
             check(answer(connection, f"SELECT {call}", value), f"polytwkb: {fault}")
     many = b"\x01\x12\x00" * 20_000_000
-    for call in ("twkb_polyline(?)", "count(*) FROM twkb_rows(?)", "count(*) FROM twkb_show(?)"):
+    for call in ("twkb_polyline(?)", "twkb_geojson(?)", "count(*) FROM twkb_rows(?)", "count(*) FROM twkb_show(?)"):
         check(answer(connection, f"SELECT {call}", many), "polytwkb: byte 3: bytes after the blob")
     check(answer(connection, "SELECT twkb_fault(?)", bytes(1_000_000_001)), "string or blob too big")
 
@@ -77,20 +85,38 @@ def many_rows(connection):
     check(answer(connection, packed, 2 * ROWS, 5), "polytwkb: row 6: polyline at 1: latitude without longitude")
 
 
+class Stopper:
+    """Counts calls, and interrupts the statement at one of them."""
+
+    def __init__(self, connection, at):
+        self.connection, self.at, self.calls = connection, at, 0
+
+    def __call__(self, *_):
+        self.calls += 1
+        if self.calls == self.at:
+            self.connection.interrupt()
+        return 1
+
+
 def interrupted(connection):
-    """A statement that is interrupted stops within a second."""
+    """A statement that is interrupted stops at the row at which it is, and inside twkb_geojson at the end of a call that wrote much."""
     connection.execute("CREATE TABLE large AS SELECT twkb_pack('linestring', 5, ?) AS b", ("AC" * 1_000_000,))
-    for statement in (
-        "WITH RECURSIVE n (i) AS (VALUES (0) UNION ALL SELECT i + 1 FROM n WHERE i < 1000000000) SELECT count(twkb_fault(x'0102020402' )) FROM n",
-        "WITH RECURSIVE n (i) AS (VALUES (0) UNION ALL SELECT i + 1 FROM n WHERE i < 1000000000) SELECT sum(length(twkb_geojson(b))) FROM n, large",
-    ):
-        begin = time.monotonic()
-        timer = threading.Timer(0.2, connection.interrupt)
-        timer.start()
-        check(answer(connection, statement), "interrupted")
-        timer.cancel()
-        if time.monotonic() - begin > 1.5:
-            raise SystemExit(f"interrupted after {time.monotonic() - begin:.1f} s")
+    rows = "WITH RECURSIVE n (i) AS (VALUES (0) UNION ALL SELECT i + 1 FROM n WHERE i < 100000) SELECT {} FROM n"
+    for call in ("twkb_fault(x'0102020402')", "twkb_polyline(x'0102020402')", "length(twkb_geojson(x'0102020402'))"):
+        stop = Stopper(connection, 1000)
+        connection.create_function("stop", 0, stop)
+        check(answer(connection, rows.format(f"max(stop() || {call})")), "interrupted")
+        check(stop.calls, 1000)
+    # twkb_geojson asks SQLite by a statement of its own, which is traced, after each call that wrote more than a megabyte:
+    # here the first one, whose room is too small, and the second
+    for at in (1, 2):
+        stop = Stopper(connection, at + 1)
+        connection.set_trace_callback(stop)
+        check(answer(connection, "SELECT length(twkb_geojson(b)) FROM large"), "interrupted")
+        connection.set_trace_callback(None)
+        check(stop.calls in (at + 1, at + 2), True)
+    (length,) = answer(connection, "SELECT length(twkb_geojson(b)) FROM large")
+    check(length > 10_000_000, True)
 
 
 def threads(extension):
@@ -114,13 +140,12 @@ def threads(extension):
 
 
 def main(extension):
-    begin = time.monotonic()
     connection = opened(extension)
     for part in (largest, hostile, many_rows, interrupted):
         part(connection)
         print(f"{part.__name__}: {time.process_time():.1f} s")
     threads(extension)
-    print(f"all right, in {time.monotonic() - begin:.0f} s")
+    print(f"all right, in {time.process_time():.0f} s of the processor")
 
 
 if __name__ == "__main__":

@@ -16,8 +16,9 @@ import sys
 sys.dont_write_bytecode = True
 sys.path.insert(0, os.path.dirname(os.path.abspath(__file__)))
 
-from answers import differing, geojson_fault, shown
+from answers import differing, exchanged, geojson_fault, ids_refused, shown
 from cases import Rows
+from wkb import REFUSED_WKB, TAKEN_WKB
 
 csv.field_size_limit(2**30)
 
@@ -37,6 +38,10 @@ OF_VALUE = {
     "headers": """SELECT json_agg(json_build_array(level, "offset", kind, "precision", metadata, length, points)) FROM twkb_show($1)""",
     "polyline": "SELECT to_json(twkb_polyline($1))",
     "geojson": "SELECT to_json(twkb_geojson($1))",
+    "wkb": "SELECT to_json(encode(twkb_wkb($1, 'drop'), 'hex'))",
+    "ids": "SELECT to_json(encode(twkb_wkb($1), 'hex'))",
+    "box": "SELECT json_build_array((b[1])[0], (b[0])[0], (b[1])[1], (b[0])[1]) FROM (SELECT twkb_box($1) AS b) AS box",
+    "from_wkb": """SELECT to_json(encode(twkb_from_wkb(wkb, "precision"), 'hex')) FROM vals WHERE n = $2""",
 }
 PACKED = """SELECT to_json(encode(twkb_pack(depth, kind, id, "precision", polyline, style ORDER BY place), 'hex')) FROM given WHERE n = $2"""
 BLOB_STATE, VALUE_STATE = "22P03", "22023"
@@ -60,7 +65,11 @@ class Session:
 
     def run(self):
         run = subprocess.run(
-            ["psql", "-X", "-q", "-A", "-t", "-v", "ON_ERROR_STOP=1"], input="".join(self.parts), stdout=subprocess.PIPE, text=True, check=True,
+            ["psql", "-X", "-q", "-A", "-t", "-v", "ON_ERROR_STOP=1"],
+            input="".join(self.parts),
+            stdout=subprocess.PIPE,
+            text=True,
+            check=True,
         )
         return run.stdout
 
@@ -69,21 +78,45 @@ def field(value):
     return "\\N" if value is None else value
 
 
+def bytea(value):
+    return "\\x" + value.hex()
+
+
+def wkb_given(case):
+    """WKB of a case and its precision, if it comes back from it."""
+    given = exchanged(case) and exchanged(case)[2]
+    return (bytea(given[0]), given[1]) if given else ("\\N", "\\N")
+
+
 def asked(cases):
     """What the functions say of the cases: by the number of the case and the name of the function."""
     session = Session()
     session.put("CREATE EXTENSION IF NOT EXISTS polytwkb;" + SAID)
-    session.put("CREATE TABLE vals (n int PRIMARY KEY, value bytea);")
-    session.put('CREATE TABLE given (n int, place int, depth int, kind text, id bigint, "precision" int, polyline text, style text);')
-    session.table("vals", [(n, "\\x" + case.value.hex()) for n, case in enumerate(cases) if not isinstance(case, Rows)])
+    session.put('CREATE TABLE vals (n int PRIMARY KEY, value bytea, wkb bytea, "precision" int);')
+    session.put(
+        'CREATE TABLE given (n int, place int, depth int, kind text, id bigint, "precision" int, polyline text, style text);'
+    )
+    session.table(
+        "vals",
+        [(n, bytea(case.value), *wkb_given(case)) for n, case in enumerate(cases) if not isinstance(case, Rows)],
+    )
     session.table(
         "given",
-        [(n, place, *map(field, row), case.style) for n, case in enumerate(cases) if isinstance(case, Rows) for place, row in enumerate(case.rows)],
+        [
+            (n, place, *map(field, row), case.style)
+            for n, case in enumerate(cases)
+            if isinstance(case, Rows)
+            for place, row in enumerate(case.rows)
+        ],
     )
     session.put("CREATE INDEX ON given (n); ANALYZE given; SELECT 'pid', pg_backend_pid();")
     for name, statement in OF_VALUE.items():
-        session.put(f"COPY (SELECT n, '{name}', said($s${statement}$s$, value, n) FROM vals ORDER BY n) TO STDOUT (FORMAT csv);")
-    session.put(f"COPY (SELECT n, 'packed', said($s${PACKED}$s$, NULL, n) FROM (SELECT DISTINCT n FROM given) g ORDER BY n) TO STDOUT (FORMAT csv);")
+        session.put(
+            f"COPY (SELECT n, '{name}', said($s${statement}$s$, value, n) FROM vals ORDER BY n) TO STDOUT (FORMAT csv);"
+        )
+    session.put(
+        f"COPY (SELECT n, 'packed', said($s${PACKED}$s$, NULL, n) FROM (SELECT DISTINCT n FROM given) g ORDER BY n) TO STDOUT (FORMAT csv);"
+    )
     session.put("SELECT 'pid', pg_backend_pid();")
     answers, pids = {}, []
     for line in csv.reader(io.StringIO(session.run())):
@@ -97,7 +130,17 @@ def asked(cases):
 
 def answer_of(text):
     """An answer as SQLite's would be: a value of JSON, or the message without its state."""
+    if text == "ok null":
+        return None
     return json.loads(text[3:]) if text.startswith("ok ") else text[6:]
+
+
+def not_exchanged(case, found):
+    """The functions of WKB and boxes whose answer is not that of the second implementation."""
+    made, box, given = exchanged(case)
+    expected = {"wkb": made.hex(), "ids": ids_refused(case) or made.hex(), "box": list(box or [None] * 4)}
+    expected["from_wkb"] = given[2].hex() if given else None
+    return [(name, found[name]) for name, answer in expected.items() if found[name] != answer]
 
 
 def faults_of(case, n, answers):
@@ -113,8 +156,15 @@ def faults_of(case, n, answers):
         found["polyline"] = [(found["polyline"],)]
     faults = differing(case, found)
     if case.fault:
-        return faults + [(name, text) for name, text in said.items() if name != "fault" and not text.startswith(BLOB_STATE)]
-    return faults + (geojson_fault(case, found["geojson"]) if said["geojson"].startswith("ok ") else [("geojson", said["geojson"])])
+        return faults + [
+            (name, text)
+            for name, text in said.items()
+            if name not in ("fault", "from_wkb") and not text.startswith(BLOB_STATE)
+        ]
+    faults += not_exchanged(case, found) if exchanged(case) else []
+    return faults + (
+        geojson_fault(case, found["geojson"]) if said["geojson"].startswith("ok ") else [("geojson", said["geojson"])]
+    )
 
 
 TEXTS = {
@@ -132,7 +182,7 @@ TEXTS = {
     "SELECT twkb_polyline('\\x011200')": "ok ",
     "SELECT twkb_polyline('\\x03031300080008020300000800070803020502000102')": "ok null",
     "SELECT twkb_polyline('\\xa20014')": "22P03 polytwkb: byte 3: truncated",
-    "SELECT twkb_geojson('\\x01020204020')": '22023 invalid hexadecimal data: odd number of digits',
+    "SELECT twkb_geojson('\\x01020204020')": "22023 invalid hexadecimal data: odd number of digits",
     "SELECT twkb_geojson('\\x010202040201')": "22P03 polytwkb: byte 5: bytes after the blob",
     "SELECT twkb_pack('point', 0, 'AC')": "ok \\x0102020402",
     "SELECT twkb_pack('polygon', 0, '')": "ok \\x031200",
@@ -163,8 +213,27 @@ TEXTS = {
     ),
     "SELECT count(*) FROM pg_proc p WHERE proname LIKE 'twkb%' AND (proparallel <> 's' OR (prokind = 'f' AND provolatile <> 'i'))": "ok 0",
     "SELECT string_agg(DISTINCT proname, ' ') FROM pg_proc WHERE proname LIKE 'twkb%' AND proisstrict": (
-        "ok twkb_fault twkb_geojson twkb_pack twkb_polyline twkb_rows twkb_show"
+        "ok twkb_box twkb_fault twkb_from_wkb twkb_geojson twkb_pack twkb_polyline twkb_rows twkb_show twkb_wkb"
     ),
+    "SELECT count(*) FROM pg_proc WHERE proname LIKE 'twkb%' AND obj_description(oid, 'pg_proc') IS NULL": "ok 0",
+    "SELECT trusted FROM pg_available_extension_versions WHERE name = 'polytwkb'": "ok true",
+    "SELECT json_build_object('g', twkb_geojson('\\x0102020402')::jsonb)": (
+        'ok {"g" : {"type": "Point", "coordinates": [2, 1]}}'
+    ),
+    "SELECT twkb_box('\\x0102020402')": "ok (2,1),(2,1)",
+    "SELECT twkb_box('\\x011200')": "ok null",
+    "SELECT row(twkb_box(NULL), twkb_wkb(NULL), twkb_from_wkb(NULL, 5), twkb_from_wkb('', NULL))": "ok (,,,)",
+    "SELECT twkb_wkb('\\x0102020402', 'keep')": "22023 polytwkb: ids are 'refuse' or 'drop'",
+    "SELECT twkb_from_wkb('', 8)": "22023 polytwkb: bad precision",
+    "SELECT twkb_from_wkb('', 5, 'none')": "22023 polytwkb: a style is 'full' or 'plain', the same for all rows",
+    **{
+        f"SELECT twkb_from_wkb('\\x{given}', 1)": f"{BLOB_STATE} polytwkb: {said}"
+        for given, said in REFUSED_WKB.items()
+    },
+    **{
+        f"SELECT encode(twkb_from_wkb('\\x{given}', 1, 'plain'), 'hex')": f"ok {made}"
+        for given, made in TAKEN_WKB.items()
+    },
 }
 
 

@@ -9,13 +9,16 @@ whose sqlite3 loads extensions, as Debian's does.
 import os
 import pickle
 import sqlite3
+import struct
 import sys
 
 sys.dont_write_bytecode = True
 sys.path.insert(0, os.path.dirname(os.path.abspath(__file__)))
 
-from answers import differing, geojson_fault, shown
+import wkb
+from answers import differing, exchanged, geojson_fault, ids_refused, shown
 from cases import Rows
+from wkb import REFUSED_WKB, TAKEN_WKB
 
 PACK = "SELECT twkb_pack(depth, kind, id, precision, polyline, ?) FROM (SELECT * FROM given ORDER BY place)"
 
@@ -50,6 +53,18 @@ class Database:
             "geojson": self.ask("SELECT twkb_geojson(?)", value),
         }
 
+    def not_exchanged(self, case):
+        """The functions of WKB and boxes whose answer is not that of the second implementation, with it."""
+        made, box, given = exchanged(case)
+        asked = {
+            "wkb": (self.one("SELECT twkb_wkb(?, 'drop')", case.value), made),
+            "ids": (self.one("SELECT twkb_wkb(?)", case.value), ids_refused(case) or made),
+            "box": (self.ask("SELECT minx, maxx, miny, maxy FROM twkb_box(?)", case.value), [box] if box else []),
+        }
+        if given:
+            asked["from_wkb"] = (self.one("SELECT twkb_from_wkb(?, ?)", *given[:2]), given[2])
+        return [(name, answer) for name, (answer, expected) in asked.items() if answer != expected]
+
     def packed(self, rows, style):
         self.connection.execute("DELETE FROM given")
         self.connection.executemany("INSERT INTO given VALUES (NULL, ?, ?, ?, ?, ?)", rows)
@@ -62,7 +77,9 @@ def compared(database, cases, geojson):
     for case in cases:
         if isinstance(case, Rows):
             answer, expected = database.packed(case.rows, case.style), [(case.blob,)]
-            faults = [] if answer == (f"polytwkb: {case.fault}" if case.fault else expected) else [("twkb_pack", answer)]
+            faults = (
+                [] if answer == (f"polytwkb: {case.fault}" if case.fault else expected) else [("twkb_pack", answer)]
+            )
         else:
             answers = database.of_value(case.value)
             faults = differing(case, answers)
@@ -72,12 +89,15 @@ def compared(database, cases, geojson):
                 text = answers["geojson"][0][0]
                 faults += geojson_fault(case, text)
                 geojson.write(f"{case.value.hex()} {text}\n")
+                faults += database.not_exchanged(case) if exchanged(case) else []
         found += bool(faults)
         if faults and found <= 5:
             print(shown(case, faults))
     return found
 
 
+MULTIPOINT = "(VALUES (0, 'multipoint', 0, NULL), (1, 'point', NULL, 'AC'))"
+HAS_EXTENDED = 8  # a bit of the metadata byte
 TEXTS = {
     "SELECT twkb_fault(NULL)": [(None,)],
     "SELECT twkb_fault('abc'), twkb_fault(1), twkb_fault(1.5)": [
@@ -90,7 +110,9 @@ TEXTS = {
     "SELECT * FROM twkb_rows('abc')": "polytwkb: a text in place of a blob",
     "SELECT * FROM twkb_show(7)": "polytwkb: an integer in place of a blob",
     "SELECT * FROM twkb_rows": "polytwkb: a blob is missing: it is the argument",
-    "SELECT blob FROM twkb_rows(x'0102020402')": "polytwkb: the argument is no column that can be read",
+    "SELECT hex(blob), kind FROM twkb_rows(x'0102020402') WHERE blob = x'0102020402'": [("0102020402", "point")],
+    "SELECT hex(blob) FROM twkb_show(x'0102020402')": [("0102020402",)],
+    "SELECT hex(blob), minx FROM twkb_box(x'0102020402')": [("0102020402", 2.0)],
     "SELECT * FROM twkb_rows(x'0102020402', 1)": "too many arguments on twkb_rows() - max 1",
     "SELECT twkb_polyline(NULL), twkb_geojson(NULL), twkb_pack(NULL, 0, ''), twkb_pack('point', NULL, ''), twkb_pack('point', 0, NULL)": [
         (None,) * 5
@@ -125,6 +147,39 @@ TEXTS = {
     "SELECT twkb_pack(0, 'point', NULL, 0, 'AC', column1) FROM (VALUES ('full'), ('plain'))": (
         "polytwkb: a style is 'full' or 'plain', the same for all rows"
     ),
+    # JSON inside JSON is no text, as of SQLite's own functions
+    "SELECT json_object('geometry', twkb_geojson(x'0102020402'))": [
+        ('{"geometry":{"type":"Point","coordinates":[2,1]}}',)
+    ],
+    "SELECT json_array(twkb_geojson(x'0102020402'), NULL, json('[1]'))": [
+        ('[{"type":"Point","coordinates":[2,1]},null,[1]]',)
+    ],
+    # a window that begins at the first row, and one that does not
+    f"SELECT hex(twkb_pack(column1, column2, NULL, column3, column4, 'plain') OVER (ROWS UNBOUNDED PRECEDING)) FROM {MULTIPOINT}": [
+        ("0410",),
+        ("0400010402",),
+    ],
+    f"SELECT hex(twkb_pack(column1, column2, NULL, column3, column4, 'plain') OVER ()) FROM {MULTIPOINT}": [
+        ("0400010402",),
+        ("0400010402",),
+    ],
+    f"SELECT twkb_pack(column1, column2, NULL, column3, column4) OVER (ROWS 0 PRECEDING) FROM {MULTIPOINT}": (
+        "polytwkb: a window of twkb_pack begins at the first row of its partition"
+    ),
+    "SELECT * FROM twkb_box(NULL)": [],
+    "SELECT * FROM twkb_box(x'011200')": [],
+    "SELECT * FROM twkb_box('abc')": "polytwkb: a text in place of a blob",
+    "SELECT * FROM twkb_box": "polytwkb: a blob is missing: it is the argument",
+    "SELECT twkb_wkb(NULL), twkb_wkb(NULL, 'drop'), twkb_from_wkb(NULL, 5), twkb_from_wkb(x'00', NULL)": [(None,) * 4],
+    "SELECT twkb_wkb(7)": "polytwkb: an integer in place of a blob",
+    "SELECT twkb_wkb(x'0102020402', 'keep')": "polytwkb: ids are 'refuse' or 'drop'",
+    "SELECT twkb_wkb(x'0102020402', NULL)": "polytwkb: ids are 'refuse' or 'drop'",
+    "SELECT twkb_from_wkb('abc', 5)": "polytwkb: a text in place of a blob",
+    "SELECT twkb_from_wkb(x'00', 8)": "polytwkb: bad precision",
+    "SELECT twkb_from_wkb(x'00', 5.0)": "polytwkb: bad precision",
+    "SELECT twkb_from_wkb(x'00', 5, 'none')": "polytwkb: a style is 'full' or 'plain', the same for all rows",
+    **{f"SELECT twkb_from_wkb(x'{given}', 1)": f"polytwkb: {said}" for given, said in REFUSED_WKB.items()},
+    **{f"SELECT hex(twkb_from_wkb(x'{given}', 1, 'plain'))": [(made.upper(),)] for given, made in TAKEN_WKB.items()},
     "SELECT twkb_pack()": "wrong number of arguments to function twkb_pack()",
 }
 
@@ -137,6 +192,42 @@ def texts(database):
         if answer != expected:
             found += 1
             print(f"{statement}: {answer!r}, not {expected!r}")
+    return found
+
+
+def suits_spatialite(tree):
+    """Whether SpatiaLite 5.0.1 reads it as we do. It divides by negative precisions, drops empty members, takes an extended
+    byte for heights, and ends its process at a ring without points."""
+    if tree.kind == "collection" or tree.precision < 0 or not tree.members:
+        return False
+    lines = {"linestring": [tree.members], "multilinestring": tree.members}.get(tree.kind, [])
+    polygons = {"polygon": [tree.members], "multipolygon": tree.members}.get(tree.kind, [])
+    return all(len(line) > 1 for line in lines) and all(
+        polygon and all(len(ring) > 3 and ring[0] == ring[-1] for ring in polygon) for polygon in polygons
+    )
+
+
+def beside_spatialite(database, cases):
+    """WKB of SpatiaLite, of the same blobs, and of our WKB."""
+    try:
+        database.connection.load_extension("mod_spatialite")
+    except sqlite3.Error as error:
+        print(f"skip  SpatiaLite: {error}")
+        return 0
+    compared, found = 0, 0
+    statement = "SELECT AsBinary(GeomFromTWKB(?1)), AsBinary(GeomFromWKB(twkb_wkb(?1, 'drop'))), twkb_wkb(?1, 'drop')"
+    for case in cases:
+        if isinstance(case, Rows) or case.fault or not wkb.is_exact(case.tree):
+            continue
+        if case.headers[0][4] & HAS_EXTENDED or not suits_spatialite(case.tree):
+            continue
+        of_twkb, of_wkb, ours = database.ask(statement, case.value)[0]
+        compared += (of_twkb is not None) + (of_wkb is not None)
+        faults = [("SpatiaLite", made) for made in (of_twkb, of_wkb) if made not in (None, ours)]
+        found += bool(faults)
+        if faults and found <= 5:
+            print(shown(case, faults + [("twkb_wkb", ours)]))
+    print(f"{compared} answers of SpatiaLite, {found} differ")
     return found
 
 
@@ -163,6 +254,29 @@ def in_tables(database):
     assert ask(grouped) == [(1, "0102020402"), (2, ""), (3, "021200")], ask(grouped)
 
 
+def in_index(database):
+    """Boxes in an R*Tree that a trigger keeps, and a query that goes through it."""
+    ask = database.ask
+    for statement in (
+        "CREATE TABLE routes (id INTEGER PRIMARY KEY, twkb BLOB)",
+        "CREATE VIRTUAL TABLE boxes USING rtree(id, minx, maxx, miny, maxy)",
+        "CREATE TRIGGER added AFTER INSERT ON routes BEGIN "
+        "INSERT INTO boxes SELECT new.id, b.minx, b.maxx, b.miny, b.maxy FROM twkb_box(new.twkb) AS b; END",
+    ):
+        assert ask(statement) == [], (statement, ask(statement))
+    for number in range(1000):
+        ask(
+            "INSERT INTO routes VALUES (?, twkb_from_wkb(?, 5))",
+            number,
+            struct.pack("<BIdd", 1, 1, number % 50, number // 50),
+        )
+    assert ask("INSERT INTO routes VALUES (5000, x'011200'), (5001, NULL)") == []
+    query = "SELECT id FROM boxes JOIN routes USING (id) WHERE minx <= 7.5 AND maxx >= 6.5 AND miny <= 3 AND maxy >= 2 ORDER BY id"
+    assert ask(query) == [(107,), (157,)], ask(query)
+    plan = " ".join(row[3] for row in ask("EXPLAIN QUERY PLAN " + query))
+    assert "SCAN boxes VIRTUAL TABLE INDEX 2:" in plan and "SEARCH routes USING INTEGER PRIMARY KEY" in plan, plan
+
+
 def main(extension, cases, geojson=os.devnull):
     database = Database(extension)
     with open(cases, "rb") as source:
@@ -171,6 +285,8 @@ def main(extension, cases, geojson=os.devnull):
         found = compared(database, cases, output)
     found += texts(database)
     in_tables(database)
+    in_index(database)
+    found += beside_spatialite(database, cases)
     print(f"{len(cases)} cases and {len(TEXTS)} statements, {found} differ")
     return found > 0
 

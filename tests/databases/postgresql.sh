@@ -21,6 +21,7 @@ work=$folder about="PostgreSQL: "
 value() { psql -At -c "$1"; }
 
 random_cases() { python3 -B "$tests/in_postgresql.py" "$cases"; }
+digits() { python3 -B "$tests/digits.py" postgresql; }
 
 # A CHECK, an index over a function, and a transaction that a refusal leaves as it was.
 in_tables() {
@@ -56,6 +57,20 @@ pointAC linestring
 END
 }
 
+# A GiST index over boxes, and the plan of a query that goes through it.
+in_index() {
+  cat > index.sql << 'END'
+CREATE TABLE places AS SELECT i, twkb_from_wkb('\x0000000001' || float8send(i % 50) || float8send(i / 50), 5) AS twkb
+    FROM generate_series(0, 9999) AS i;
+INSERT INTO places VALUES (10000, '\x011200'), (10001, NULL);
+CREATE INDEX places_box ON places USING gist (twkb_box(twkb));
+ANALYZE places;
+SELECT i FROM places WHERE twkb_box(twkb) && box '((6.5,2),(7.5,3))' ORDER BY i;
+EXPLAIN (COSTS OFF) SELECT i FROM places WHERE twkb_box(twkb) && box '((6.5,2),(7.5,3))';
+END
+  psql -At -f index.sql > index.txt && head -n 2 index.txt | diff - <(printf '107\n157\n') && grep 'Scan.* on places_box\|using places_box' index.txt
+}
+
 # The same answers by several workers.
 in_parallel() {
   psql -c "CREATE TABLE many AS SELECT twkb_pack('linestring', 5, repeat('AC', i % 50)) AS b FROM generate_series(1, 200000) AS i" -c "ANALYZE many" || return 1
@@ -71,7 +86,51 @@ SELECT 1 / (count(*) = 100 AND count(twkb_fault(b)) = 0 AND sum(length(twkb_geoj
     AND min((twkb_pack('linestring', 5, twkb_polyline(b)) = b)::int) = 1)::int FROM (SELECT b FROM many LIMIT 100) AS few;
 END
   "$bindir/pgbench" -n -c 1000 -j 4 -t 1 -f once.sql > pgbench.txt 2>&1
-  grep 'processed: 1000/1000' pgbench.txt || { tail -n 3 pgbench.txt; return 1; }
+  grep 'processed: 1000/1000' pgbench.txt || {
+    tail -n 3 pgbench.txt
+    return 1
+  }
+}
+
+# WKB beside that of PostGIS: of the same blobs, of our WKB, and in each of its spellings to the same blob. Left out are
+# precisions below 0, as PostGIS divides by a power that is no double; what it refuses, such as a line of one point; parts
+# that are empty, as it writes a geometry that has only such parts as one that has none; and rings that it closes.
+beside_postgis() {
+  cat > postgis.sql << 'END'
+CREATE FUNCTION geometry_of(blob bytea) RETURNS geometry LANGUAGE plpgsql AS $$
+BEGIN RETURN ST_GeomFromTWKB(blob); EXCEPTION WHEN OTHERS THEN RETURN NULL; END $$;
+CREATE FUNCTION geometry_of_wkb(wkb bytea) RETURNS geometry LANGUAGE plpgsql AS $$
+BEGIN RETURN ST_GeomFromWKB(wkb); EXCEPTION WHEN OTHERS THEN RETURN NULL; END $$;
+CREATE TABLE beside AS SELECT n, value, geometry_of(value) AS geom, geometry_of_wkb(twkb_wkb(value, 'drop')) AS again,
+    "precision" AS p FROM vals WHERE twkb_fault(value) IS NULL AND "precision" >= 0;
+DELETE FROM beside WHERE geom IS NULL OR ST_NPoints(geom) <> (SELECT points FROM twkb_show(value) LIMIT 1) OR (SELECT count(*) > 1 AND bool_or(CASE
+    WHEN polyline IS NULL THEN coalesce(after, 0) <= depth ELSE polyline = '' END)
+    FROM (SELECT *, lead(depth) OVER (ORDER BY place) AS after FROM twkb_rows(value)
+        WITH ORDINALITY AS r (depth, kind, id, "precision", polyline, place)) AS r);
+SELECT count(*) > 100, count(again) > 100 FROM beside;
+SELECT n, value FROM beside WHERE twkb_wkb(value, 'drop') <> ST_AsBinary(geom, 'NDR')
+    OR twkb_wkb(value, 'drop') <> ST_AsBinary(again, 'NDR');
+SELECT n, value FROM beside WHERE EXISTS (SELECT FROM (VALUES (ST_AsBinary(geom, 'XDR')), (ST_AsBinary(geom, 'NDR')),
+    (ST_AsEWKB(geom, 'XDR')), (ST_AsEWKB(ST_SetSRID(geom, 4326), 'XDR')), (ST_AsEWKB(ST_SetSRID(geom, 4326), 'NDR'))) AS v (wkb)
+    WHERE twkb_wkb(twkb_from_wkb(wkb, p)) IS DISTINCT FROM twkb_wkb(value, 'drop'));
+\set ON_ERROR_STOP 0
+SELECT twkb_from_wkb(ST_AsEWKB('POINT Z (1 2 3)'::geometry), 5);
+SELECT twkb_from_wkb(ST_AsBinary('LINESTRING M (1 2 3, 4 5 6)'::geometry), 5);
+SELECT twkb_from_wkb(ST_AsBinary('POINT ZM (1 2 3 4)'::geometry), 5);
+SELECT twkb_from_wkb(ST_AsBinary('CIRCULARSTRING (0 0, 1 1, 2 0)'::geometry), 5);
+SELECT twkb_from_wkb(ST_AsBinary('MULTIPOINT (1 2, EMPTY)'::geometry), 5);
+END
+  psql -c 'CREATE EXTENSION postgis' 2> postgis.errors || { echo "PostGIS is not there" && return 0; }
+  psql -At -f postgis.sql > postgis.txt 2> postgis.errors
+  { cat postgis.txt && sed 's/.*ERROR:  //' postgis.errors; } | diff - <(printf '%s\n' 't|t' 'polytwkb: byte 1: Z coordinates' \
+    'polytwkb: byte 1: M coordinates' 'polytwkb: byte 1: Z and M coordinates' 'polytwkb: byte 1: unknown type' \
+    'polytwkb: byte 35: empty point in a multipoint')
+}
+
+# Who owns a database may create the extension there, and need be no superuser.
+by_an_owner() {
+  value 'CREATE ROLE owner LOGIN' && value 'CREATE DATABASE own OWNER owner' || return 1
+  PGDATABASE=own PGUSER=owner value "CREATE EXTENSION polytwkb; SELECT twkb_fault('\\x0102020402') IS NULL" | grep -x t
 }
 
 # A refusal leaves no memory behind: that of the backend after 20,000 of them is that after the first thousand.
@@ -94,21 +153,22 @@ SQL
   [ "$(psql -At -f refusals.sql)" = t ]
 }
 
-# milliseconds COMMAND..: how long it takes.
-milliseconds() {
-  local begin=${EPOCHREALTIME/./}
-  "$@" > /dev/null 2> cancelled.txt
-  echo $(((${EPOCHREALTIME/./} - begin) / 1000))
-}
-
-# Statements of many calls, and calls that take long by themselves, stop within a second after they are cancelled.
+# A statement that is cancelled ends with that, and not with its answer: one of many calls, and calls that take long by
+# themselves. Each would take hours.
 is_cancelled() {
-  local statement took
-  psql -c "CREATE TABLE large AS SELECT twkb_pack('linestring', 5, repeat('AC', 10000000)) AS b" || return 1
-  for statement in 'SELECT count(twkb_fault(b)) FROM many, generate_series(1, 1000)' 'SELECT length(twkb_geojson(b)) FROM large' \
-    'SELECT count(*) FROM large, generate_series(1, 100), twkb_rows(b)' "SELECT count(*) FROM many, twkb_rows(b), generate_series(1, 1000)"; do
-    took=$(milliseconds psql -c "SET statement_timeout = 100" -c "$statement")
-    { grep 'canceling statement' cancelled.txt && [ "$took" -lt 1500 ]; } || { echo "$statement: $took ms"; cat cancelled.txt; return 1; }
+  local statement
+  psql -c "CREATE TABLE large AS SELECT twkb_pack('linestring', 5, repeat('AC', 16000000)) AS b" || return 1
+  for statement in 'SELECT count(twkb_fault(b)) FROM many, generate_series(1, 1000000)' \
+    'SELECT length(twkb_geojson(b)) FROM large, generate_series(1, 1000000)' \
+    'SELECT length(twkb_wkb(twkb_from_wkb(twkb_wkb(b), 5))) FROM large, generate_series(1, 1000000)' \
+    'SELECT count(*) FROM large, generate_series(1, 1000000), twkb_rows(b)' \
+    'SELECT count(*) FROM many, twkb_rows(b), generate_series(1, 1000000)'; do
+    psql -c "SET statement_timeout = 300" -c "$statement" > /dev/null 2> cancelled.txt
+    grep 'canceling statement' cancelled.txt || {
+      echo "$statement"
+      cat cancelled.txt
+      return 1
+    }
   done
 }
 
@@ -148,11 +208,15 @@ END
 alive() { [ "$(value 'SELECT 1')" = 1 ] && ! grep -E 'terminated by signal|PANIC|TRAP' "$folder/server.log"; }
 
 report "random cases and vectors" random_cases
+told "digits of a CSV" digits
+report "WKB beside PostGIS" beside_postgis
 report "constraints, indexes and transactions" in_tables
+report "boxes in a GiST index" in_index
+report "created by an owner" by_an_owner
 report "several workers" in_parallel
 report "1,000 statements at once" at_once
 report "refusals leave no memory" no_memory_left
-report "cancelled within a second" is_cancelled
+report "cancelled" is_cancelled
 report "the largest values" largest
 report "no backend ended" alive
 passed_all

@@ -22,3 +22,11 @@ SELECT twkb_pack(depth, kind, id, precision, polyline) FROM (SELECT * FROM twkb_
 SELECT twkb_pack(0, 'point', NULL, 0, '') FROM (SELECT 1 WHERE 0);
 SELECT twkb_polyline(twkb_pack('linestring', 0, replace(hex(zeroblob(4000)), '0', 'AC'))) = replace(hex(zeroblob(4000)), '0', 'AC');
 SELECT count(*) FROM twkb_rows(x'0102020402') a, twkb_show(x'0102020402') b, twkb_rows(x'011200') c;
+SELECT json_array(twkb_geojson(x'0102020402'));
+SELECT hex(blob), minx, maxx, miny, maxy FROM twkb_box(x'06070d02000200020608020102020000');
+SELECT hex(twkb_wkb(x'07070f02000200020e010102020202021200', 'drop'));
+SELECT twkb_wkb(x'07070f02000200020e010102020202021200');
+SELECT hex(twkb_from_wkb(x'0020000001000010e63ff0000000000000c000000000000000', 1));
+SELECT twkb_from_wkb(x'010600000001000000010300000002000000', 1);
+SELECT max(b) FROM (SELECT twkb_pack(depth, kind, id, precision, polyline) OVER (ROWS 0 PRECEDING) AS b FROM twkb_rows(x'06070d02000200020608020102020000'));
+SELECT hex(twkb_pack(depth, kind, id, precision, polyline) OVER ()) FROM twkb_rows(x'0102020402');
