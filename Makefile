@@ -1,6 +1,8 @@
 # make demo              the main job on an example: builds the command, and runs the first lines of README.md with it
 # make test              all tests: the gate, and then the parts named below on what it built
 # make check             the short round
+# make quick             for the minutes before the gate: lint, pages, and the rows of tests/vectors without a proof
+# make layout            lays out Python, C, JavaScript and shell as make lint wants it
 # make lint              linters over what is beside the crates, and what is too long in them; needs no kit
 # make build             the command into bin/
 # make dist              archive, Debian package and wheel for each processor (64-bit ARM if its compiler is there), and the
@@ -16,7 +18,10 @@
 # make arm64-test        these under qemu
 # make wasm              the library for browsers and Node into js/, with its JavaScript
 # make wasm-test         its tests in Node and in browsers, if they are installed
+# make picture           the picture of the page that README.md shows, by Chromium
 # make databases         the extensions for SQLite and PostgreSQL into out/, if the headers of these are there
+# make gdal              the driver for GDAL into out/gdal, if its headers are there
+# make gdal-test         the driver: what it reads and writes, beside other drivers, hostile files
 # make databases-test    the extensions: vectors, random cases, refused growths, hostile values, in servers of their own
 # make lib-test          the examples in C, Python and Go (if installed) over it; in C under valgrind, if installed
 # make lib-bench         times of calls of the library and of the package for Python
@@ -29,7 +34,7 @@
 # make fuzz-library      the library and the package for Python likewise: arrays of rows and points, checks of tables
 # make bench             times and memory, compared with a plain program; BENCH has words for bench/beside_plain.sh
 # make clean             removes what was built
-.PHONY: test check lint build lib databases databases-test static arm64 arm64-test wasm wasm-test lib-test lib-bench wheel python-test demo bench smoke completions-test docs-test recipes hostile fuzz fuzz-library dist dist-test install uninstall clean
+.PHONY: test check quick layout lint build lib databases databases-test gdal gdal-test static arm64 arm64-test wasm wasm-test picture lib-test lib-bench wheel python-test demo bench smoke completions-test docs-test recipes hostile fuzz fuzz-library dist dist-test install uninstall clean
 
 PREFIX ?= /usr/local
 DESTDIR ?=
@@ -56,6 +61,14 @@ test:
 
 check:
 	scripts/check.sh
+
+quick: lint
+	scripts/docs_test.py --pages
+	python3 tests/vectors/make.py --check
+	cd crates/vector_runner && rt try < stdin > out/said && diff -u stdout out/said && echo "ok    the rows of tests/vectors, by a run without a proof"
+
+layout:
+	scripts/layout.sh
 
 lint:
 	scripts/lint.sh
@@ -85,29 +98,50 @@ out/libpolytwkb.a: $(SOURCES)
 # The extensions, each one file over the library's archive. In their folders are those of a version of the database.
 SQL_SOURCES := $(wildcard extensions/shared/*.h) include/polytwkb.h
 SQL_FLAGS := -O2 -Wall -Wextra -Werror -fPIC -shared -Iinclude -Iextensions/shared -Wl,-z,relro,-z,now
-PG_CONFIG ?= pg_config
-PG_MAJOR = $(shell $(PG_CONFIG) --version 2> /dev/null | sed 's/^PostgreSQL \([0-9]*\).*/\1/')
+# The servers for which the extension is built: all that Debian has put there, or the one of PG_CONFIG.
+PG_CONFIG ?= $(or $(wildcard /usr/lib/postgresql/*/bin/pg_config),pg_config)
+SERVER_CONFIG = $(firstword $(PG_CONFIG))
 SQLITE_EXTENSION := out/mod_polytwkb.so
-PG_EXTENSION = out/postgresql/$(PG_MAJOR)
 HAS_SQLITE = $(wildcard /usr/include/sqlite3ext.h)
-HAS_POSTGRESQL = $(wildcard $(shell $(PG_CONFIG) --includedir-server 2> /dev/null)/postgres.h)
 
 databases:
 	@if [ -n "$(HAS_SQLITE)" ]; then $(MAKE) -s $(SQLITE_EXTENSION); else echo "left out: SQLite, as libsqlite3-dev is not there"; fi
-	@if [ -n "$(HAS_POSTGRESQL)" ]; then $(MAKE) -s $(PG_EXTENSION)/polytwkb.so; else echo "left out: PostgreSQL, as postgresql-server-dev is not there"; fi
+	@found=; for config in $(PG_CONFIG); do \
+	  [ -e "$$($$config --includedir-server 2> /dev/null)/postgres.h" ] || continue; \
+	  major=$$($$config --version | sed 's/^PostgreSQL \([0-9]*\).*/\1/'); \
+	  $(MAKE) -s out/postgresql/$$major/polytwkb.so SERVER_CONFIG=$$config || exit 1; found=1; \
+	done; [ -n "$$found" ] || echo "left out: PostgreSQL, as postgresql-server-dev is not there"
 
-out/mod_polytwkb.so: extensions/sqlite/mod_polytwkb.c extensions/sqlite/tables.h extensions/sqlite/mod_polytwkb.map $(SQL_SOURCES) out/libpolytwkb.a
+out/mod_polytwkb.so: extensions/sqlite/mod_polytwkb.c $(wildcard extensions/sqlite/*.h) extensions/sqlite/mod_polytwkb.map $(SQL_SOURCES) out/libpolytwkb.a
 	$(CC) -std=c11 $(SQL_FLAGS) -Wl,--version-script=extensions/sqlite/mod_polytwkb.map -o $@ $< out/libpolytwkb.a
 	@echo "$@ is built"
 
-# With it what CREATE EXTENSION reads.
+# The flags of the server's own build, whose headers rely on some of them, but not its warnings about style. Beside the
+# library is what CREATE EXTENSION reads.
 out/postgresql/%/polytwkb.so: $(wildcard extensions/postgresql/polytwkb.*) $(SQL_SOURCES) out/libpolytwkb.a
 	rm -rf out/postgresql/$*
 	mkdir -p out/postgresql/$*
-	$(CC) -std=gnu11 $(SQL_FLAGS) -isystem "$$($(PG_CONFIG) --includedir-server)" -Wl,--version-script=extensions/postgresql/polytwkb.map -o $@ extensions/postgresql/polytwkb.c out/libpolytwkb.a
+	$(CC) -std=gnu11 $$($(SERVER_CONFIG) --cflags --cppflags) $(SQL_FLAGS) -Wno-declaration-after-statement -Wno-missing-prototypes -isystem "$$($(SERVER_CONFIG) --includedir-server)" -Wl,--version-script=extensions/postgresql/polytwkb.map -o $@ extensions/postgresql/polytwkb.c out/libpolytwkb.a
 	sed 's/@VERSION@/$(VERSION)/' extensions/postgresql/polytwkb.control.in > $(@D)/polytwkb.control
 	cp extensions/postgresql/polytwkb.sql $(@D)/polytwkb--$(VERSION).sql
 	@echo "$@ is built"
+
+# The driver for GDAL, in a folder of its own, since the binary interface changes with each minor version of GDAL. All
+# symbols of the library stay inside, and one that GDAL does not have ends the build here, and not each program of GDAL.
+GDAL_MINOR := $(shell pkg-config --modversion gdal 2> /dev/null | cut -d. -f1,2)
+GDAL_PLUGIN := out/gdal/$(GDAL_MINOR)/ogr_TWKB.so
+GDAL_SOURCES := $(wildcard extensions/gdal/*.cpp)
+
+gdal:
+	@if [ -n "$(GDAL_MINOR)" ]; then $(MAKE) -s $(GDAL_PLUGIN); else echo "left out: GDAL, as libgdal-dev is not there"; fi
+
+out/gdal/%/ogr_TWKB.so: $(GDAL_SOURCES) $(wildcard extensions/gdal/*.hpp) include/polytwkb.h out/libpolytwkb.a
+	mkdir -p $(@D)
+	$(CXX) -std=c++17 -O2 -Wall -Wextra -Werror -fPIC -shared -fvisibility=hidden -Iinclude $$(pkg-config --cflags gdal | sed 's/-I/-isystem /g') -o $@ $(GDAL_SOURCES) out/libpolytwkb.a $$(pkg-config --libs gdal) -Wl,-z,defs,-z,relro,-z,now -Wl,--exclude-libs,ALL
+	@echo "$@ is built"
+
+gdal-test: lib gdal
+	scripts/gdal_test.sh
 
 databases-test: build lib databases
 	scripts/databases_test.sh $(if $(filter file,$(origin CASES)),20000,$(CASES)) $(SEED)
@@ -154,10 +188,19 @@ js/polytwkb.wasm: out/libpolytwkb.bc $(wildcard packaging/wasm/*)
 wasm-test: js/polytwkb.wasm out/libpolytwkb.so
 	scripts/wasm_test.sh $(CASES) $(SEED)
 
+# The page with its example, as a browser shows it.
+picture: js/polytwkb.wasm
+	@mkdir -p out/picture
+	node js/tests/browser.mjs picture out/picture chromium
+	cp out/picture/chromium.png docs/page.png
+
 out/convert: examples/c/convert.c include/polytwkb.h out/libpolytwkb.a
 	$(CC) -std=c11 -O1 -g -Wall -Wextra -Werror -Iinclude -o $@ $< out/libpolytwkb.a
 
 out/arrays: examples/c/arrays.c include/polytwkb.h out/libpolytwkb.a
+	$(CC) -std=c11 -O1 -g -Wall -Wextra -Werror -Iinclude -o $@ $< out/libpolytwkb.a
+
+out/pieces: examples/c/pieces.c include/polytwkb.h out/libpolytwkb.a
 	$(CC) -std=c11 -O1 -g -Wall -Wextra -Werror -Iinclude -o $@ $< out/libpolytwkb.a
 
 # The example in C, linked to the shared library.
@@ -180,12 +223,13 @@ lib-bench: out/times out/libpolytwkb.so
 	python=python3; $$python -c 'import numpy, shapely' 2> /dev/null || python=/usr/bin/python3; \
 	POLYTWKB_LIBRARY=out/libpolytwkb.so PYTHONPATH=python $$python -B -W ignore bench/library/columns.py
 
-lib-test: lib out/convert out/convert_shared out/arrays
+lib-test: lib out/convert out/convert_shared out/arrays out/pieces
 	grep -qx '#define POLYTWKB_VERSION "$(VERSION)"' include/polytwkb.h || { echo "the header is not of version $(VERSION)" >&2; exit 1; }
 	if command -v $(CXX) > /dev/null; then $(CXX) -std=c++11 -Wall -Wextra -Werror -fsyntax-only -x c++ include/polytwkb.h; fi
 	out/convert
 	out/convert_shared
 	out/arrays
+	scripts/pieces_test.sh out/pieces
 	if command -v valgrind > /dev/null; then valgrind -q --error-exitcode=1 --leak-check=full out/convert && valgrind -q --error-exitcode=1 --leak-check=full out/arrays; fi
 	examples/python/convert.py out/libpolytwkb.so
 	if command -v go > /dev/null; then $(MAKE) -s out/convert_go && LD_LIBRARY_PATH=out out/convert_go; else echo "skip  the library in Go: go is not there"; fi
@@ -203,7 +247,7 @@ bench: build
 	bench/beside_plain.sh $(BENCH)
 
 smoke: build
-	scripts/smoke.sh
+	GIGABYTES=$${GIGABYTES:-5} scripts/smoke.sh
 
 completions-test: build
 	scripts/completions_test.sh
@@ -254,7 +298,7 @@ HEADER_FILE := $(INCLUDEDIR)/polytwkb.h
 # Pages that are installed, beside the folders of examples/ that they name. A link to what is not installed becomes its text.
 PAGES := USING RECIPES FORMATS
 EXAMPLES := $(notdir $(wildcard examples/*))
-LINKS_OUT := s!\[([^]]*)\]\((\.\./(README|python|js|extensions|crates|tests)|PERF)[^)]*\)!\1!g
+LINKS_OUT := s!\[([^]]*)\]\((\.\./(README|python|js|extensions|crates|tests|include)|PERF)[^)]*\)!\1!g
 
 # The program that is installed, and the folder of the libraries.
 PROGRAM ?= bin/polytwkb
@@ -284,7 +328,7 @@ uninstall:
 	rm -rf '$(DESTDIR)$(DOC_DIR)'
 
 # Built files for users without the kit.
-dist: build lib static wasm databases
+dist: build lib static wasm databases gdal
 	scripts/dist.sh dist
 	@if command -v $(ARM64_CC) > /dev/null; then $(MAKE) -s arm64 && scripts/dist.sh dist arm64; else echo "left out of dist/: 64-bit ARM, as $(ARM64_CC) is not there"; fi
 

@@ -20,6 +20,6 @@ bench/plain/build.sh bench/out/plain
 mkdir -p bench/out
 programs=(bin/polytwkb bench/out/plain/release/plain bench/out/plain/release/make_table bench/out)
 if [ "${1-}" = instructions ]; then
-    exec python3 bench/instructions.py "${programs[@]}" "${@:2}"
+  exec python3 bench/instructions.py "${programs[@]}" "${@:2}"
 fi
 exec python3 bench/users.py "${programs[@]}" "$@"

@@ -20,20 +20,20 @@ set -euo pipefail
 cd "$(dirname "$0")/.."
 name=${1-}
 case "$name" in
-reading)
+  reading)
     libraries="twkb_blob twkb_convert twkb_geom twkb_io twkb_table" words="reader" loops="read_loop"
     bench/plain/build.sh bench/out/plain
     ;;
-rows | stream)
+  rows | stream)
     libraries="twkb_blob twkb_geom twkb_io" words="" loops="read_loop" measure=rows
     bench/plain/build.sh bench/out/plain
     ;;
-writing)
+  writing)
     libraries="twkb_points twkb_io twkb_geom twkb_blob"
     words="0 0" loops="read_loop write_loop"
     ;;
-tables) libraries="csv twkb_io twkb_geom twkb_table" words="records" loops="table_loop" ;;
-*)
+  tables) libraries="csv twkb_io twkb_geom twkb_table" words="records" loops="table_loop" ;;
+  *)
     echo "compare.sh reading|rows|stream [MB [ROUNDS]], compare.sh writing, or compare.sh tables [MB [ROUNDS]]" >&2
     exit 2
     ;;
@@ -49,7 +49,7 @@ echo "$name: $libraries" >> "$copy/crates.txt"
 (cd "$copy/crates/$name" && rt run -- $words < /dev/null > /dev/null)
 built=()
 for loop in $loops; do
-    rustc -O "bench/baseline/$loop.rs" -o "$copy/$loop"
-    built+=("$copy/$loop")
+  rustc -O "bench/baseline/$loop.rs" -o "$copy/$loop"
+  built+=("$copy/$loop")
 done
 python3 "bench/measure_${measure:-$name}.py" "$copy/crates/$name/out/$name" "${built[@]}" "$copy" "${@:2}"

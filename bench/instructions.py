@@ -23,7 +23,9 @@ def profile_of(program, word, source, profile):
     """Instructions of one run, and those of the functions that hold most."""
     words = ["valgrind", "--tool=callgrind", f"--callgrind-out-file={profile}", program, word]
     with open(source, "rb") as reads:
-        ended = subprocess.run(words, stdin=reads, stdout=subprocess.DEVNULL, stderr=subprocess.PIPE, check=True, text=True)
+        ended = subprocess.run(
+            words, stdin=reads, stdout=subprocess.DEVNULL, stderr=subprocess.PIPE, check=True, text=True
+        )
     listed = subprocess.run(["callgrind_annotate", profile], stdout=subprocess.PIPE, check=True, text=True).stdout
     functions = [(name, int(count.replace(",", ""))) for count, name in FUNCTION.findall(listed)]
     return int(re.search(r"Collected : (\d+)", ended.stderr).group(1)), functions[:NAMED]
@@ -53,7 +55,9 @@ def measure(programs, maker, folder, case):
     points = points_in(table)
     for word in WORDS:
         source = table if word == "pack" else stream
-        (ours, our_functions), (plain, its_functions) = [profile_of(programs[name], word, source, profile) for name in PROGRAMS]
+        (ours, our_functions), (plain, its_functions) = [
+            profile_of(programs[name], word, source, profile) for name in PROGRAMS
+        ]
         each = [f"{count / per:.0f}" for per in (rows, points) for count in (ours, plain)]
         print("| " + " | ".join([CASES[case].format(long="points"), word] + each + [f"{ours / plain:.2f}"]) + " |")
         print(name_functions("polytwkb", our_functions, rows, points))
@@ -64,7 +68,10 @@ def measure(programs, maker, folder, case):
 
 def main():
     programs, maker, folder = dict(zip(PROGRAMS, sys.argv[1:3])), sys.argv[3], sys.argv[4]
-    print("| Table | Command | instructions a row | plain | a point | plain | over plain |\n|---|---|---|---|---|---|---|", flush=True)
+    print(
+        "| Table | Command | instructions a row | plain | a point | plain | over plain |\n|---|---|---|---|---|---|---|",
+        flush=True,
+    )
     for case in sys.argv[5:] or CASES:
         measure(programs, maker, folder, case)
 

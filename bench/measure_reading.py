@@ -15,7 +15,9 @@ def seconds_of(program, way, source):
     tells = way in TELLING
     with open(source, "rb") as reads:
         before = resource.getrusage(resource.RUSAGE_CHILDREN).ru_utime
-        ended = subprocess.run([program, way], stdin=reads, stdout=subprocess.PIPE if tells else subprocess.DEVNULL, check=True)
+        ended = subprocess.run(
+            [program, way], stdin=reads, stdout=subprocess.PIPE if tells else subprocess.DEVNULL, check=True
+        )
     return resource.getrusage(resource.RUSAGE_CHILDREN).ru_utime - before, int(ended.stdout) if tells else None
 
 
@@ -43,7 +45,13 @@ def measure(program, loop, source, rounds):
 def open_sessions(program, source):
     """Peak kilobytes of sessions that stand open."""
     with open(source, "rb") as reads:
-        ended = subprocess.run(["/usr/bin/time", "-f", "%M", program, "open"], stdin=reads, stdout=subprocess.PIPE, stderr=subprocess.PIPE, check=True)
+        ended = subprocess.run(
+            ["/usr/bin/time", "-f", "%M", program, "open"],
+            stdin=reads,
+            stdout=subprocess.PIPE,
+            stderr=subprocess.PIPE,
+            check=True,
+        )
     return int(ended.stdout), int(ended.stderr.split()[-1])
 
 

@@ -30,7 +30,9 @@ def main():
             records = min(records, seconds_of([program, "records"], source))
             decoded = subprocess.run([loop, "decode", source], stdout=subprocess.PIPE, check=True).stdout
             polylines = min(polylines, float(decoded.split()[2]))
-        print(f"{kind}, {size} | {geometries:.3f} | {records:.3f} | {polylines:.3f} | {geometries / (records + polylines):.2f}")
+        print(
+            f"{kind}, {size} | {geometries:.3f} | {records:.3f} | {polylines:.3f} | {geometries / (records + polylines):.2f}"
+        )
 
 
 main()

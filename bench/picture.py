@@ -43,7 +43,9 @@ def scale(most, bottom):
         parts.append(f'<line x1="{x:.1f}" y1="{TOP - 8}" x2="{x:.1f}" y2="{bottom}" stroke="#dddddd"/>')
         parts.append(text(x, bottom + 15, f"{place * step:g}", "middle"))
     x = LABELS + BARS / most
-    parts.append(f'<line x1="{x:.1f}" y1="{TOP - 8}" x2="{x:.1f}" y2="{bottom}" stroke="#333333" stroke-dasharray="4 3"/>')
+    parts.append(
+        f'<line x1="{x:.1f}" y1="{TOP - 8}" x2="{x:.1f}" y2="{bottom}" stroke="#333333" stroke-dasharray="4 3"/>'
+    )
     parts.append(text(x, TOP - 11, "plain program", "middle", 11))
     return parts
 
@@ -64,7 +66,9 @@ def picture(rows):
     for row in rows:
         y = TOP + cases.index(row["case"]) * (high + GAP) + list(COLOURS).index(row["command"]) * BAR
         length = BARS * row["ratio"] / most
-        parts.append(f'<rect x="{LABELS}" y="{y}" width="{length:.1f}" height="{BAR - 2}" fill="{COLOURS[row["command"]]}"/>')
+        parts.append(
+            f'<rect x="{LABELS}" y="{y}" width="{length:.1f}" height="{BAR - 2}" fill="{COLOURS[row["command"]]}"/>'
+        )
         parts.append(text(LABELS + length + 4, y + BAR - 3, f"{row['ratio']:.2f}", size=11))
     for place, case in enumerate(cases):
         parts.append(text(LABELS - 8, TOP + place * (high + GAP) + high / 2 + 4, case, "end"))

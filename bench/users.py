@@ -30,7 +30,9 @@ PIECE = 1 << 20
 
 
 def parse_words():
-    parser = argparse.ArgumentParser(prog="bench/beside_plain.sh", description="Measures polytwkb beside a plain program.")
+    parser = argparse.ArgumentParser(
+        prog="bench/beside_plain.sh", description="Measures polytwkb beside a plain program."
+    )
     parser.add_argument("--megabytes", type=float, default=40, help="size of each table but that of the long line (40)")
     parser.add_argument("--points", type=int, default=10_000_000, help="points of the long line (10000000)")
     parser.add_argument("--rounds", type=int, default=9, help="runs of each program, of which the best counts (9)")
@@ -104,7 +106,10 @@ class Table:
 
     def seconds(self, word):
         """One run of each program."""
-        return {name: self.processors.run(lambda: seconds_of(self.programs[name], word, self.source(word))) for name in PROGRAMS}
+        return {
+            name: self.processors.run(lambda: seconds_of(self.programs[name], word, self.source(word)))
+            for name in PROGRAMS
+        }
 
     def peak(self, word):
         return {name: peak_of(self.programs[name], word, self.source(word)) for name in PROGRAMS}
@@ -152,7 +157,9 @@ def wkb_length(path):
         rows = csv.reader(file)
         next(rows)
         # each number of a polyline ends with one of these characters, and a point has two numbers
-        return sum(WKB_HEADERS.get(kind, 9) + 8 * len(NUMBER_ENDS.findall(polyline)) for _, kind, _, _, polyline in rows)
+        return sum(
+            WKB_HEADERS.get(kind, 9) + 8 * len(NUMBER_ENDS.findall(polyline)) for _, kind, _, _, polyline in rows
+        )
 
 
 def deflated_length(path):
@@ -172,16 +179,18 @@ def measure(options, case):
     rows = []
     for word in WORDS:
         (seconds, half_seconds), quiet = best([whole, half], word, options.rounds)
-        rows.append({
-            "case": CASES[case].format(long=points_text(options.points)),
-            "command": word,
-            "quiet": quiet,
-            "seconds": seconds,
-            "speed": {name: whole.length[word] / MEGABYTE / seconds[name] for name in PROGRAMS},
-            "ratio": seconds["polytwkb"] / seconds["plain"],
-            "peak": whole.peak(word),
-            "growth": {name: seconds[name] / half_seconds[name] for name in PROGRAMS},
-        })
+        rows.append(
+            {
+                "case": CASES[case].format(long=points_text(options.points)),
+                "command": word,
+                "quiet": quiet,
+                "seconds": seconds,
+                "speed": {name: whole.length[word] / MEGABYTE / seconds[name] for name in PROGRAMS},
+                "ratio": seconds["polytwkb"] / seconds["plain"],
+                "peak": whole.peak(word),
+                "growth": {name: seconds[name] / half_seconds[name] for name in PROGRAMS},
+            }
+        )
         print(line_of(rows[-1], options.busy), flush=True)
     sizes = {"case": rows[0]["case"], **whole.sizes()}
     print(sizes_line(sizes), flush=True)
@@ -206,8 +215,12 @@ PAGE_HEAD = (
 )
 
 SIZES = {
-    "table": "table", "full": "stream, full", "plain": "stream, plain", "wkb": "WKB",
-    "table_gzip": "table, gzip", "full_gzip": "stream, gzip",
+    "table": "table",
+    "full": "stream, full",
+    "plain": "stream, plain",
+    "wkb": "WKB",
+    "table_gzip": "table, gzip",
+    "full_gzip": "stream, gzip",
 }
 SIZES_HEAD = f"| MB of | {' | '.join(SIZES.values())} |\n|---|{'---|' * len(SIZES)}"
 

@@ -22,7 +22,10 @@ built() {
   # without a word the program ends with status 2, which says that it was built
   over "$work/copy" polytwkb run < /dev/null || status=$?
   object=$work/copy/crates/polytwkb/out/polytwkb.o
-  { [ "$status" -eq 2 ] && [ -s "$object" ]; } || { cat "$work/copy.log"; exit 1; }
+  { [ "$status" -eq 2 ] && [ -s "$object" ]; } || {
+    cat "$work/copy.log"
+    exit 1
+  }
 }
 
 [ -s "$object" ] || built

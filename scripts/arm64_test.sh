@@ -75,7 +75,10 @@ pages() {
   for file in "$built/polytwkb" "$built/static/polytwkb" "$(realpath "$built/libpolytwkb.so")"; do
     for align in $(readelf -lW "$file" | awk '$1 == "LOAD" { print $NF }'); do
       loads=$((loads + 1))
-      [ $((align)) -ge 65536 ] || { echo "$file: $align"; return 1; }
+      [ $((align)) -ge 65536 ] || {
+        echo "$file: $align"
+        return 1
+      }
     done
   done
   [ $loads -gt 0 ]

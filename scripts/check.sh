@@ -30,9 +30,16 @@ run_tests() {
 run_tests > "$work/tests.log" 2>&1 &
 tests_run=$!
 copy_crates "$work/copy" "${proved[@]}"
-prove "$work/copy" || { echo "check: a proof or a stored run failed"; exit 1; }
+prove "$work/copy" || {
+  echo "check: a proof or a stored run failed"
+  exit 1
+}
 grep '^rt: ok' "$work/copy.log"
-wait $tests_run || { cat "$work/tests.log"; echo "check: a test failed"; exit 1; }
+wait $tests_run || {
+  cat "$work/tests.log"
+  echo "check: a test failed"
+  exit 1
+}
 grep '^tests: ' "$work/tests.log"
 python3 tests/vectors/make.py --check
 install -D "$work/copy/crates/polytwkb/out/polytwkb" bin/polytwkb

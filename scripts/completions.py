@@ -4,7 +4,8 @@
     scripts/completions.py [PROGRAM]
 
 Each file of completions must have the lines that follow from help, and no others of their form. An option with a value
-has possible values in help, or a range in the place of the value. The page must name each word of the command line and
+has possible values in help, or a range in the place of the value, or the name of a file, which is also the word of a
+command that belongs to no option. The page must name each word of the command line and
 no other option, and have each text of a run's end but those of reasons, which scripts/reasons.py compares.
 """
 import difflib
@@ -18,8 +19,8 @@ from pages import REPO, report, text_of
 
 # The lines of each file that follow from help.
 FORMS = {
-    "polytwkb.bash": r" +\w*,\S+\) words=.*",
-    "_polytwkb": r"  '\w+:.*'|      \w+\)| +'.*\[.*\].*",
+    "polytwkb.bash": r" +\w*,.*\) (words|files)=.*",
+    "_polytwkb": r"  '\w+:.*'|      \w+\)| +'.*\[.*\].*| +'1:file:.*",
     "polytwkb.fish": r"complete -c polytwkb -n .*",
 }
 
@@ -32,6 +33,8 @@ class Option(NamedTuple):
     means: str
     span: str
     names: str
+    is_file: bool
+    has_text: bool
 
     def forms(self):
         return [form for form in (self.long, self.short) if form]
@@ -43,38 +46,57 @@ def help_of(program, *words):
 
 def options_of(shown):
     """The options that a help text lists."""
-    for short, long, value, rest in re.findall(r"^ +(?:(-\w), )?(--[a-z-]+)(?: <([^>]+)>)? {2,}(.*)$", shown, re.M):
-        names = re.search(r"\[possible values: (.*)\]", rest)
+    for short, long, value, rest in re.findall(r"^ +(?:(-\w), )?(--[a-z=-]+)(?: <([^>]+)>)? {2,}(.*)$", shown, re.M):
+        listed = re.search(r"\[possible values: (.*)\]", rest)
+        names = listed[1].replace(", ", " ") if listed else ""
         span = value.replace(" to ", " ") if " to " in value else ""
-        yield Option(short, long, re.sub(r" [\[(].*", "", rest), span, names[1].replace(", ", " ") if names else "")
+        yield Option(
+            short,
+            long,
+            re.sub(r" [\[(].*", "", rest),
+            span,
+            names,
+            value == "FILE",
+            bool(value) and value != "FILE" and not span and not names,
+        )
 
 
 def bash(command, options, names=()):
     for option in options:
         words = f"$(echo {{{option.span.replace(' ', '..')}}})" if option.span else option.names
-        if words:
+        if words or option.has_text:
             yield f'    {command},{option.long}) words="{words}" ;;'
-    yield f"    {command},*) words='{' '.join([*names, *(form for option in options for form in option.forms())])}' ;;"
+        if option.is_file:
+            yield f"    {' | '.join(f'{command},{form}' for form in option.forms())}) files=1 ;;"
+    words = " ".join([*names, *(form for option in options for form in option.forms())])
+    yield f"    {command},*) words='{words}'{' files=1' if command else ''} ;;"
 
 
 def zsh(command, options):
-    """The words of `_arguments`; those of the program are indented less than those of a command."""
-    yield from [f"      {command})"] if command else []
+    """The words of `_arguments`, in which a backslash is a mark; the program's are indented less than a command's."""
+    options = [option._replace(means=option.means.replace("\\", "\\\\")) for option in options]
+    yield from [f"      {command})", "          '1:file:_files' \\"] if command else []
     for place, option in enumerate(options):
         words, end = option.names, " \\" if not command or place + 1 < len(options) else ""
         if option.span:
             first, last = map(int, option.span.split())
             words = " ".join(map(str, range(first, last + 1)))
-        given = f"'{option.long}=[{option.means}]:{option.long[2:]}:({words})'"
-        plain = f"'(- *)'{{{option.short},{option.long}}}'[{option.means}]'"
-        yield f"{' ' * (10 if command else 2)}{given if words else plain}{end}"
+        given = f"'{option.long}=[{option.means}]:{option.long[2:]}:{f'({words})' if words else ''}'"
+        flag = f"'{option.long}[{option.means}]'"
+        plain = f"'(- *)'{{{option.short},{option.long}}}'[{option.means}]'" if option.short else flag
+        file = f"'({option.short} {option.long})'{{{option.short}+,{option.long}=}}'[{option.means}]:file:_files'"
+        yield f"{' ' * (10 if command else 2)}{file if option.is_file else given if words or option.has_text else plain}{end}"
 
 
 def fish(command, options):
     when = f"'__fish_seen_subcommand_from {command}'" if command else "__fish_use_subcommand"
+    yield from [f"complete -c polytwkb -n {when} -F"] if command else []
     for option in options:
         words = f"(seq {option.span})" if option.span else option.names
-        short, given = f" -s {option.short[1:]}" if option.short else "", f" -x -a '{words}'" if words else ""
+        short, given = (
+            f" -s {option.short[1:]}" if option.short else "",
+            f" -x -a '{words}'" if words else " -r -F" if option.is_file else " -x" if option.has_text else "",
+        )
         yield f"complete -c polytwkb -n {when}{short} -l {option.long[2:]}{given} -d '{option.means}'"
 
 

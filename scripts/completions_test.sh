@@ -4,7 +4,10 @@
 # shellcheck source=scripts/checks.bash
 source "$(dirname "$0")/checks.bash"
 
-[ -x bin/polytwkb ] || { echo "completions: bin/polytwkb is not there" >&2; exit 1; }
+[ -x bin/polytwkb ] || {
+  echo "completions: bin/polytwkb is not there" >&2
+  exit 1
+}
 scripts/completions.py || touch "$work/failed"
 
 # Lines, and what the tab adds to each: words of the program and of each command, values, and names of files after a
@@ -14,6 +17,8 @@ typed=(
   "polytwkb unpack --max|-nest " "polytwkb show --he|lp " "polytwkb pack < tab|le" "polytwkb pack < tablexy|z.csv "
   "polytwkb pack <tablexy|z.csv " "polytwkb pack < two|\\ words.csv " "polytwkb pack < table.csv > tablexy|z.csv "
   "polytwkb show 2> tablexy|z.csv " "polytwkb unpack >> tablexy|z.csv "
+  "polytwkb pack tablexy|z.csv " "polytwkb pack --out|put " "polytwkb unpack -o tablexy|z.csv "
+  "polytwkb show --output=tablexy|z.csv " "polytwkb pack --style plain two|\\ words.csv "
 )
 # Types them into bash. Control-A and control-E go to the ends of the line, where it is quoted and printed after a mark.
 on_terminal() {

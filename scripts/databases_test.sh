@@ -20,6 +20,12 @@ for one in python3 /usr/bin/python3; do [ -n "$python" ] || ! loads "$one" || py
 growths() {
   cc -std=gnu11 -O1 -g -Wall -Wextra -Werror -o "$work/growths" $tests/growths.c -lsqlite3 && "$work/growths" out/mod_polytwkb.so
 }
+# WKB of strangers under the address sanitizer.
+hostile_wkb() {
+  cc -std=c11 -O1 -g -Wall -Wextra -Werror -Wno-unused-function -fsanitize=address,undefined -fno-sanitize-recover=all \
+    -Iinclude -Iextensions/shared -o "$work/hostile_wkb" $tests/hostile_wkb.c out/libpolytwkb.a -lm && "$work/hostile_wkb" "$cases" "$seed"
+}
+has_sanitizer() { echo 'int main(void) { return 0; }' | cc -fsanitize=address,undefined -x c - -o "$work/sanitized" 2> "$work/none"; }
 # Statements of the shell, some of which fail: its output, and then its errors.
 under_valgrind() {
   valgrind -q --error-exitcode=9 --leak-check=full --errors-for-leak-kinds=definite sqlite3 < $tests/statements.sql > "$work/output" 2> "$work/errors"
@@ -27,7 +33,10 @@ under_valgrind() {
 }
 in_sqlite() {
   about="SQLite: "
-  [ -e out/mod_polytwkb.so ] || { skip "libsqlite3-dev is not there"; return; }
+  [ -e out/mod_polytwkb.so ] || {
+    skip "libsqlite3-dev is not there"
+    return
+  }
   if [ -n "$python" ]; then
     told "cases, types and tables" "$python" $tests/in_sqlite.py out/mod_polytwkb.so "$work/cases" "$work/geojson"
     if [ ! -e js/polytwkb.wasm ] || ! is_there node; then
@@ -39,6 +48,11 @@ in_sqlite() {
   else
     skip "no python3 is there whose sqlite3 loads extensions"
   fi
+  if is_there sqlite3; then
+    told "digits of a CSV" python3 $tests/digits.py sqlite out/mod_polytwkb.so
+  else
+    skip "digits of a CSV: sqlite3 is not there"
+  fi
   told "each growth refused" growths
   if is_there valgrind && is_there sqlite3; then
     told "memory, by valgrind" under_valgrind
@@ -48,15 +62,26 @@ in_sqlite() {
 }
 in_postgresql() {
   local said status
-  compgen -G 'out/postgresql/*/polytwkb.so' > /dev/null || { skip "PostgreSQL: postgresql-server-dev is not there"; return; }
+  compgen -G 'out/postgresql/*/polytwkb.so' > /dev/null || {
+    skip "PostgreSQL: postgresql-server-dev is not there"
+    return
+  }
   said=$($tests/postgresql.sh "$work/cases" 2>&1)
   status=$?
   case $said in
     "skipped: "*) skip "PostgreSQL: ${said#skipped: }" ;;
-    *) echo "$said"; [ $status -eq 0 ] || touch "$work/failed" ;;
+    *)
+      echo "$said"
+      [ $status -eq 0 ] || touch "$work/failed"
+      ;;
   esac
 }
 
+if has_sanitizer; then
+  told "hostile WKB" hostile_wkb
+else
+  skip "hostile WKB: the compiler has no address sanitizer"
+fi
 told "cases" python3 $tests/cases.py "$work/cases" "$cases" "$seed"
 in_sqlite &
 in_postgresql

@@ -13,4 +13,6 @@ if command -v make > /dev/null; then make --silent build; else scripts/build.sh 
 folder=$(mktemp -d)
 trap 'rm -rf "$folder"' EXIT
 awk '/^```sh$/ { inside = 1; next } /^```$/ && inside { exit } inside' README.md > "$folder/lines.sh"
-TMPDIR=$folder bash -ev -o pipefail "$folder/lines.sh" 2>&1
+PATH=$PWD/bin:$PATH
+cd "$folder"
+bash -ev -o pipefail lines.sh 2>&1

@@ -1,7 +1,7 @@
 #!/usr/bin/env bash
 # Packs the files of `make install` into an archive and a package for Debian, the package for Python into a wheel, and
 # that for JavaScript into an archive of npm, with their sums, for users without the kit. The extensions of databases that
-# `make databases` built become packages for Debian, of this machine's processor alone:
+# `make databases` and `make gdal` built become packages for Debian, of this machine's processor alone:
 #
 #   scripts/dist.sh FOLDER            of this machine's processor
 #   scripts/dist.sh FOLDER arm64      of what `make arm64` built
@@ -27,10 +27,14 @@ program=bin/polytwkb built=out
 case $(readelf -h $program | sed -n 's/^ *Machine: *//p') in
   *X86-64) machine=x86_64 debian=amd64 processor=x86-64 ;;
   AArch64) machine=aarch64 debian=arm64 processor="64-bit ARM" ;;
-  *) echo "dist.sh: $program is of an unknown processor" >&2; exit 1 ;;
+  *)
+    echo "dist.sh: $program is of an unknown processor" >&2
+    exit 1
+    ;;
 esac
 day=$(sed -n "s/^## .*$version (\(.*\))$/\1/p" CHANGELOG.md | head -n 1)
-[ -n "$day" ] || { echo "CHANGELOG.md has no version $version" >&2; exit 1; }
+# of a version that is not released yet, the day of the last commit
+[ -n "$day" ] || day=$(git log -1 --format=%cs)
 SOURCE_DATE_EPOCH=${SOURCE_DATE_EPOCH:-$(date -u -d "$day" +%s)}
 export SOURCE_DATE_EPOCH
 # newest FILE..: the newest version of the C library whose symbols these files use
@@ -63,11 +67,14 @@ archive() {
   packed "$work" "$name" "$folder/$name.tar.gz"
 }
 
+# the files that package.json names, as npm would pack them; the licence is that of the sources
 npm_archive() {
-  local tree=$work/npm/package
+  local tree=$work/npm/package file
+  local named='import json; print(*json.load(open("js/package.json"))["files"], sep="\n")'
   mkdir -p "$tree"
-  (cd js && cp -r package.json README.md polytwkb.js polytwkb.d.ts polytwkb.wasm src page examples "$tree")
-  cp LICENSE "$tree"
+  for file in package.json $(python3 -c "$named"); do
+    if [ -e "js/$file" ]; then cp -r "js/$file" "$tree"; else cp "$file" "$tree"; fi
+  done
   packed "$work/npm" package "$folder/polytwkb-$version.tgz"
 }
 
@@ -136,14 +143,23 @@ extensions() {
       extension "usr/lib/postgresql/$major/lib" "postgresql-$major-polytwkb" packaging/postgresql.control.in extensions/postgresql/README.md \
         "$made"/polytwkb{.so,.control,--*.sql}
   done
+  # GDAL looks into the folder of its own version, if there is one, and then no longer into this one
+  for made in out/gdal/*/ogr_TWKB.so; do
+    [ -e "$made" ] || continue
+    major=$(readelf -d "$made" | sed -n 's/.*\[libgdal\.so\.\([0-9]*\)\]$/\1/p')
+    extension "usr/lib/$machine-linux-gnu/gdalplugins" polytwkb-gdal packaging/gdal.control.in extensions/gdal/README.md "$made"
+  done
 }
 
 mkdir -p "$folder"
-rm -f "$folder"/polytwkb-*-"$machine"-linux.tar.gz "$folder"/polytwkb_*_"$debian".deb "$folder"/*-polytwkb_*_"$debian".deb "$folder"/polytwkb-sqlite_*_"$debian".deb "$folder"/polytwkb-*_"$machine".whl "$folder/SHA256SUMS"
+rm -f "$folder"/polytwkb-*-"$machine"-linux.tar.gz "$folder"/polytwkb_*_"$debian".deb "$folder"/*-polytwkb_*_"$debian".deb "$folder"/polytwkb-{sqlite,gdal}_*_"$debian".deb "$folder"/polytwkb-*_"$machine".whl "$folder/SHA256SUMS"
 archive
 package
 scripts/wheel.py "$folder" $built/libpolytwkb.so > /dev/null
 # one for all processors, and those that are built for this one alone
-[ "${2:-}" = arm64 ] || { npm_archive; extensions; }
+[ "${2:-}" = arm64 ] || {
+  npm_archive
+  extensions
+}
 (cd "$folder" && find . -type f | sed 's|^\./||' | sort | xargs sha256sum > "$work/sums" && mv "$work/sums" SHA256SUMS)
 cat "$folder/SHA256SUMS"

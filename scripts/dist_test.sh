@@ -60,7 +60,10 @@ converts() {
 flags() {
   local system=(PKG_CONFIG_ALLOW_SYSTEM_CFLAGS=1 PKG_CONFIG_ALLOW_SYSTEM_LIBS=1 PKG_CONFIG_LIBDIR="$1$3/pkgconfig")
   [ "$2" != /usr ] || system+=("PKG_CONFIG_SYSROOT_DIR=$1")
-  is_there pkg-config || { echo "-I$1$2/include -L$1$3 -lpolytwkb"; return; }
+  is_there pkg-config || {
+    echo "-I$1$2/include -L$1$3 -lpolytwkb"
+    return
+  }
   env "${system[@]}" pkg-config --cflags --libs polytwkb
 }
 
@@ -185,6 +188,11 @@ postgresql_package=$(echo dist/postgresql-*-polytwkb_*_"$debian".deb)
 major=${postgresql_package#dist/postgresql-}
 major=${major%%-*}
 
+gdal_package=$(echo dist/polytwkb-gdal_*_"$debian".deb)
+in_gdal() {
+  printf '\x01\x02\x02\x04\x02' > "$work/point.twkb"
+  GDAL_DRIVER_PATH=$1/usr/lib/$machine-linux-gnu/gdalplugins ogrinfo -q -al "$work/point.twkb" | grep 'POINT (2 1)'
+}
 in_sqlite() {
   local select="SELECT twkb_fault(x'01020204'), * FROM twkb_rows(twkb_pack('point', 0, 'AC'))"
   sqlite3 -cmd ".load $1/usr/lib/$machine-linux-gnu/mod_polytwkb" :memory: "$select" |
@@ -192,13 +200,18 @@ in_sqlite() {
 }
 # extension NAME PACKAGE PROGRAM: installs the package of an extension, if the program of its database is there.
 extension() {
-  if [ ! -e "$2" ] || ! is_there "$3"; then skip "$1: $3 is not there, or no package is made"; return; fi
+  if [ ! -e "$2" ] || ! is_there "$3"; then
+    skip "$1: $3 is not there, or no package is made"
+    return
+  fi
   report "$1: is installed" by_dpkg "$work/$1" "$2"
   [ "$1" != SQLite ] || report "$1: is used" in_sqlite "$work/$1"
+  [ "$1" != GDAL ] || report "$1: is used" in_gdal "$work/$1"
   report "$1: is removed" removed "$work/$1" "$(dpkg-deb -f "$2" Package)"
   needing lintian "$1: lintian" lints "$2"
 }
 extension SQLite "$sqlite_package" sqlite3
+extension GDAL "$gdal_package" ogrinfo
 # apt-get, below, has a server use this one
 extension PostgreSQL "$postgresql_package" "/usr/lib/postgresql/$major/bin/postgres"
 
@@ -224,7 +237,13 @@ END
 refuses() {
   local word
   for word in pack unpack show; do
-    cmp <("$@" "$word" < "$work/cut" 2>&1; echo $?) <(bin/polytwkb "$word" < "$work/cut" 2>&1; echo $?) || return 1
+    cmp <(
+      "$@" "$word" < "$work/cut" 2>&1
+      echo $?
+    ) <(
+      bin/polytwkb "$word" < "$work/cut" 2>&1
+      echo $?
+    ) || return 1
   done
 }
 head -c 10 "$work/stops.twkb" > "$work/cut"
@@ -262,9 +281,45 @@ const readme = readFileSync('node_modules/polytwkb/README.md', 'utf8');
 assert.deepEqual(await faultsOf(readme, import.meta.resolve('polytwkb')), []);
 END
 }
+# The files are those that package.json names.
+in_archive() {
+  (cd "$1/node_modules/polytwkb" && diff <(find . -mindepth 1 -maxdepth 1 -printf '%f\n' | sort) \
+    <(node -p '["package.json", ...require("./package.json").files].join("\n")' | sort))
+}
+# A program of CommonJS has the package, or reads what to write if its Node loads no modules so.
+in_commonjs() {
+  local said option=--no-experimental-require-module
+  node $option -e 0 2> /dev/null || option=
+  # shellcheck disable=SC2086 # no word, or one
+  said=$(cd "$1" && node $option -e 'try { require("polytwkb") } catch (fault) { console.log(fault.message) }') &&
+    [ "$said" = "polytwkb is an ES module: use import, or await import('polytwkb')" ] &&
+    { [ -z $option ] || [ "$(cd "$1" && node -p 'typeof require("polytwkb").load' 2> /dev/null)" = function ]; }
+}
+# Bundles as esbuild makes them without a flag, which are for browsers, and of other forms.
+in_bundles() {
+  local form
+  cp "$1/node_modules/polytwkb/polytwkb.wasm" "$1"
+  cat > "$1/app.mjs" << 'END'
+import {load, pack, unpack} from 'polytwkb';
+const table = 'depth,kind,id,precision,polyline\n0,point,,0,AC\n';
+load('polytwkb.wasm').then(() => console.log(unpack(pack(table)) === table));
+END
+  echo 'try { require("polytwkb"); } catch (fault) { console.log(fault.message); }' > "$1/app.cjs"
+  for form in '' --minify --format=esm --platform=node; do
+    # shellcheck disable=SC2086 # no word, or one
+    (cd "$1" && esbuild app.mjs --bundle $form --log-level=error --outfile="bundle$form.mjs" &&
+      [ "$(node "bundle$form.mjs")" = true ]) || return 1
+  done
+  (cd "$1" && esbuild app.cjs --bundle --log-level=error --outfile=required.cjs && node required.cjs)
+}
 if is_there node && is_there npm; then
   report "npm: is installed into an empty folder" by_npm "$work/node"
+  report "npm: it has the files that package.json names" in_archive "$work/node"
   report "npm: it packs and unpacks, and does what its README shows" in_node "$work/node"
+  report "npm: its command packs, shows and unpacks" converts "$work/node/node_modules/.bin/polytwkb"
+  report "npm: its command refuses as the program does" refuses "$work/node/node_modules/.bin/polytwkb"
+  report "npm: a program that requires it" in_commonjs "$work/node"
+  needing esbuild "npm: bundles by esbuild without a flag" in_bundles "$work/node"
 else
   skip "npm: node or npm is not there"
 fi

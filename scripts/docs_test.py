@@ -1,7 +1,7 @@
 #!/usr/bin/env python3
 """Runs the commands that documents show, and compares their output with the output shown. Compares the callers in the
-READMEs of crates with the files of the crate `examples`, which the gate proves. Then runs pages.py, promises.py and
-reasons.py, which need no program. Exit status: 0 if all is as the documents say, 1 if not, 2 if there is no program.
+READMEs of crates with the files of the crate `examples`, which the gate proves. Then runs pages.py, promises.py,
+conversions.py, reasons.py and version.py, which need no program. Exit status: 0 if all is as the documents say, 1 if not, 2 if there is no program.
 
     scripts/docs_test.py [FILE ..]
     scripts/docs_test.py --pages      all but the commands, for which a program is needed
@@ -35,9 +35,11 @@ import sys
 import tempfile
 from functools import partial
 
+import conversions
 import pages
 import promises
 import reasons
+import version
 from pages import REPO, report, text_of
 
 FILES = ["README.md", "docs/USING.md", "docs/RECIPES.md", "crates/polytwkb/README.md"]
@@ -83,8 +85,14 @@ def in_new_folder(text, environment):
     """What bash did with a text in an empty folder, with no input."""
     with tempfile.TemporaryDirectory(prefix="docs_test.") as folder:
         return subprocess.run(
-            ["bash", "-c", text], cwd=folder, env=environment, stdin=subprocess.DEVNULL, capture_output=True,
-            encoding="utf-8", errors="backslashreplace", timeout=SECONDS,
+            ["bash", "-c", text],
+            cwd=folder,
+            env=environment,
+            stdin=subprocess.DEVNULL,
+            capture_output=True,
+            encoding="utf-8",
+            errors="backslashreplace",
+            timeout=SECONDS,
         )
 
 
@@ -135,7 +143,9 @@ def callers():
             shown.add(name)
             held = text_of(f"crates/example_callers/src/{name}")
             if block.rstrip("\n") != held.rstrip("\n"):
-                faults.append(f"{path}: not as in crates/example_callers/src/{name}{difference(block, held, 'README', name)}")
+                faults.append(
+                    f"{path}: not as in crates/example_callers/src/{name}{difference(block, held, 'README', name)}"
+                )
     lost = sorted(set(os.listdir(f"{REPO}/crates/example_callers/src")) - shown)
     faults += [f"crates/example_callers/src/{name}: no README shows it" for name in lost]
     return report(f"crates/*/README.md: {len(shown) - 2} callers", faults)
@@ -184,7 +194,7 @@ def wrong_files():
 
 def main(words):
     """How many faults there are."""
-    checks = [callers, lines_not_run, pages.main, promises.main, reasons.main]
+    checks = [callers, lines_not_run, pages.main, promises.main, conversions.main, reasons.main, version.main]
     if words != ["--pages"]:
         if not os.access(os.path.join(REPO, "bin", "polytwkb"), os.X_OK):
             print("docs_test: no bin/polytwkb; 'make build' makes it", file=sys.stderr)

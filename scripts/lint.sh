@@ -6,7 +6,10 @@ source "$(dirname "$0")/checks.bash"
 
 # files PATTERN..: prints the files of the repository, and new ones, with these endings.
 files() { git ls-files --cached --others --exclude-standard -- "$@" | sort -u; }
-mapfile -t python < <({ files '*.py'; files | xargs grep -lIE '^#!.*\bpython3\b' --; } | sort -u)
+mapfile -t python < <({
+  files '*.py'
+  files | xargs grep -lIE '^#!.*\bpython3\b' --
+} | sort -u)
 mapfile -t scripts < <(files | xargs grep -lIE '^#!.*\bbash\b' --)
 # What is compiled for this processor, if the headers of databases are there; packaging/wasm has a compiler and warnings
 # of its own.
@@ -41,6 +44,8 @@ bare_numbers() {
   ! git grep -nE -e "\\b(status|reason)\\b${compare}[0-9]" -e "\\b[0-9]+${compare}(\\w+\\.)?(status|reason)\\b" \
     -e '\b(Refused|reason_text|reasonText)\([0-9]' -- python/polytwkb js/src
 }
+# the layout that the formatters write; scripts/layout.sh writes it
+laid_out() { scripts/layout.sh --check "$@"; }
 marks_of_a_merge() { ! git grep -nE '^(<{7}|>{7})( |$)'; }
 
 needing shellcheck "bash: shellcheck, ${#other_scripts[@]} scripts" shellcheck --check-sourced "${other_scripts[@]}"
@@ -53,6 +58,9 @@ else
 fi
 needing tsc "JavaScript: types of js/src" typed_js
 needing cc "C: warnings, ${#c[@]} files" warnings
+needing black "Python: layout by black" laid_out python
+needing clang-format "C and JavaScript: layout by clang-format" laid_out c
+needing shfmt "bash: layout by shfmt" laid_out shell
 needing rustfmt "Rust: layout of bench/plain" in_plain rustfmt --check --edition 2021 src/{lib,main,make_table}.rs
 if cargo clippy --version > /dev/null 2>&1; then
   export CARGO_TARGET_DIR=$work/clippy

@@ -12,11 +12,15 @@ A link to a file of this repository is checked: the file must exist, and so must
 
 In docs/FORMATS.md each word between backquotes in a column "Said by" must be a definition, a field or a case of
 crates/*/specs/; the first word, of the one crate that the text above the tables names, unless the cell names another.
+
+The names of files and crates in all pages, and the names that pages give to a crate: see scripts/page_names.py.
 """
 import glob
 import os
 import re
 import sys
+
+import page_names
 
 REPO = os.path.abspath(os.path.join(os.path.dirname(__file__), ".."))
 SET_UP = ["demo", "test"]
@@ -110,8 +114,14 @@ def lost_definitions():
             yield f"docs/FORMATS.md:{number}: crates/{crate}/specs/ defines no {word}"
 
 
+def lost_names():
+    """The names in pages that nothing has; in blocks of code none is looked up."""
+    for page in pages(REPO):
+        yield from page_names.lost_names(page, FENCED.sub(lambda block: "\n" * block[0].count("\n"), text_of(page)))
+
+
 def main(top=REPO):
-    of_repository = [*front_faults(), *lost_definitions()] if top == REPO else []
+    of_repository = [*front_faults(), *lost_definitions(), *lost_names()] if top == REPO else []
     return report(f"{len(pages(top))} pages: links, set-up and definitions", [*lost_links(top), *of_repository])
 
 

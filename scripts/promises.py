@@ -6,6 +6,7 @@ is wrong. A table has the heads Promise, Clause and Edits; a crate without edits
   - a public function that has a clause, or a function of a public trait or of an implementation of one;
   - the label of a clause of such a function, or a ghost member of a public trait;
   - a `pub` definition of specs/, or a field of one.
+  A cell that begins with `private: ` names functions that are not public, and labels of their clauses, as well.
 - The names in a cell of Edits are those of files must-fail/NAME.edit of this crate; one of another crate is
   `CRATE/NAME`.
 - Each edit of a crate is beside a promise of its README.
@@ -31,8 +32,9 @@ def texts_of(crate, files):
     return map(text_of, glob.glob(os.path.join(REPO, "crates", crate, files), recursive=True))
 
 
-def clauses_in(text):
-    """Public functions of a source file that have clauses, the labels of these, ghost members of public traits."""
+def clauses_in(text, private=False):
+    """Public functions of a source file that have clauses, the labels of these, ghost members of public traits; with
+    `private`, functions that are not public as well."""
     found, opens, function = set(), False, None
     for line in text.split("\n"):
         block, called, clause, ghost = (form.match(line) for form in (BLOCK, FUNCTION, CLAUSE, GHOST))
@@ -41,7 +43,8 @@ def clauses_in(text):
         elif line == "}":
             opens = False
         elif called:
-            function = called.group(2) if called.group(1) == "pub " or (opens and not called.group(1)) else None
+            is_public = called.group(1) == "pub " or (opens and not called.group(1))
+            function = called.group(2) if is_public or private else None
         elif clause and function:
             found |= {function, clause.group(1) or function}
         elif ghost and opens:
@@ -49,9 +52,9 @@ def clauses_in(text):
     return found
 
 
-def citable(crate):
-    """What a row of a crate may cite."""
-    written = set().union(*map(clauses_in, texts_of(crate, "src/**/*.rt")))
+def citable(crate, private=False):
+    """What a row of a crate may cite; with `private`, what is not public as well."""
+    written = set().union(*(clauses_in(text, private) for text in texts_of(crate, "src/**/*.rt")))
     return written.union(*map(DEFINITION.findall, texts_of(crate, "specs/**/*.antt")))
 
 
@@ -75,11 +78,13 @@ def backticked(cell):
 
 def faults_of(crate, rows):
     """What is wrong with the rows of a crate, a line each."""
-    names, shown, edits = citable(crate), set(), edits_of(crate)
+    public, every, shown, edits = citable(crate), citable(crate, private=True), set(), edits_of(crate)
     for promise, clause, *cells in rows:
         here = f"crates/{crate}/README.md, {promise}"
-        cited = backticked(clause)
-        yield from (f"{here}: no public clause or definition is called `{name}`" for name in cited if name not in names)
+        cited, names = backticked(clause), every if clause.startswith("private: ") else public
+        yield from (
+            f"{here}: no clause or definition to cite is called `{name}`" for name in cited if name not in names
+        )
         if not cited:
             yield f"{here}: no clause"
         for name in backticked("".join(cells)):

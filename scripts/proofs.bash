@@ -58,8 +58,14 @@ prove() {
     sleep 5
   fi
   (cd "$copy" && exec ${engine:+nice} rt ci) 2>&1 | tee "$copy.log" | shown "$(names_of "$copy/crates.txt" | wc -l)" ||
-    { cat "$copy.log"; return 1; }
-  [ -z "$engine" ] || wait "$engine" || { cat "$copy-engine.log"; return 1; }
+    {
+      cat "$copy.log"
+      return 1
+    }
+  [ -z "$engine" ] || wait "$engine" || {
+    cat "$copy-engine.log"
+    return 1
+  }
 }
 
 # libraries COPY CRATE..: copies these crates and those below them, proved. PROVED names a checkout in which `rt

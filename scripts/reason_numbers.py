@@ -14,29 +14,42 @@ from reason_table import BUFFER, OTHERS, of_kind, own
 CRATES = ["crates/twkb_command", BUFFER, "crates/twkb_arrays", "crates/twkb_c"]
 STATUSES = {
     "docs/USING.md": [
-        (r"\| # \| all was converted", "DONE"), (r"\| # \| a record or a blob was refused", "REFUSED"),
-        (r"\| # \| the command line was refused", "ARGUMENTS"), (r"\| # \| standard input or output failed", "DEVICE"),
+        (r"\| # \| all was converted", "DONE"),
+        (r"\| # \| a record or a blob was refused", "REFUSED"),
+        (r"\| # \| the command line was refused", "ARGUMENTS"),
+        (r"\| # \| a file could not be opened", "DEVICE"),
         (r"\| # \| out of memory", "MEMORY"),
     ],
     "crates/twkb_command/src/help.rt": [
-        ("  #  all was converted", "DONE"), ("  #  the input was refused", "REFUSED"), ("  #  the command line was refused", "ARGUMENTS"),
-        ("  #  reading or writing failed", "DEVICE"), ('  #  out of memory";', "MEMORY"),
+        ("  #  all was converted", "DONE"),
+        ("  #  the input was refused", "REFUSED"),
+        ("  #  the command line was refused", "ARGUMENTS"),
+        ("  #  a file could not be opened", "DEVICE"),
+        ('  #  out of memory";', "MEMORY"),
     ],
     "man/polytwkb.1": [
-        (r"#\nAll was converted", "DONE"), (r"#\nThe input was refused", "REFUSED"), (r"#\nThe arguments of the command line", "ARGUMENTS"),
-        (r"#\nStandard input or standard output failed", "DEVICE"), (r"#\nOut of memory", "MEMORY"),
+        (r"#\nAll was converted", "DONE"),
+        (r"#\nThe input was refused", "REFUSED"),
+        (r"#\nThe arguments of the command line", "ARGUMENTS"),
+        (r"#\nA file could not be opened", "DEVICE"),
+        (r"#\nOut of memory", "MEMORY"),
     ],
     "docs/FORMATS.md": [
-        (r"\| `polytwkb: record N: T` \| # \|", "REFUSED"), (r"\| `polytwkb: byte O: T` \| # \|", "REFUSED"),
-        (r"\| `polytwkb: input or output too long` \| # \|", "REFUSED"), (r"\| `polytwkb: too many records` \| # \|", "REFUSED"),
-        (r"\| `polytwkb: read failed` \| # \|", "DEVICE"), (r"\| `polytwkb: write failed` \| # \|", "DEVICE"),
-        (r"\| `polytwkb: out of memory` \| # \|", "MEMORY"), (r"A word that is not UTF-8 .* status #\.", "ARGUMENTS"),
+        (r"\| `polytwkb: record N: T` \| # \|", "REFUSED"),
+        (r"\| `polytwkb: byte O: T` \| # \|", "REFUSED"),
+        (r"\| `polytwkb: input or output too long` \| # \|", "REFUSED"),
+        (r"\| `polytwkb: too many records` \| # \|", "REFUSED"),
+        (r"\| `polytwkb: read failed` \| # \|", "DEVICE"),
+        (r"\| `polytwkb: write failed` \| # \|", "DEVICE"),
+        (r"\| `polytwkb: out of memory` \| # \|", "MEMORY"),
+        (r"A word that is not UTF-8 .* status #\.", "ARGUMENTS"),
     ],
 }
 # A status or a reason that is compared with a number without a name, or a number that is given as a reason, in Python or JavaScript.
 BARE = re.compile(
     r"^.*(?:\b(?:status|reason)\b *(?:[<>]=?|[!=]==?) *\d|\b\d+ *(?:[<>]=?|[!=]==?) *(?:\w+\.)?(?:status|reason)\b"
-    r"|\b(?:Refused|reason_text|reasonText)\(\d).*$", re.M,
+    r"|\b(?:Refused|reason_text|reasonText)\(\d).*$",
+    re.M,
 )
 
 
@@ -52,7 +65,11 @@ def statuses(rows):
 def bare_numbers(rows):
     """The lines of Python and JavaScript that compare a status or a reason with a number."""
     for folder in ("python/polytwkb/*.py", "js/src/*.js"):
-        found = [line.strip() for file in sorted(glob.glob(os.path.join(REPO, folder))) for line in BARE.findall(text_of(file))]
+        found = [
+            line.strip()
+            for file in sorted(glob.glob(os.path.join(REPO, folder)))
+            for line in BARE.findall(text_of(file))
+        ]
         yield f"{folder}, numbers without a name", [], found
 
 
@@ -70,18 +87,44 @@ def whole_input(rows):
         yield f"{file}, Cause", pairs, [pair for pair in re.findall(line, text_of(file), re.M) if pair in pairs]
 
 
-def array_texts(rows):
-    """The numbers and texts of the reasons for which arrays are refused: of the code and of its definition."""
-    wanted = [(row.number, row.text) for row in of_kind(rows, "array")]
-    for file, line in (("src/reason_texts.rt", r'^ *(\d+) => "(.*)",$'), ("specs/Texts.antt", r'if number == (\d+) then codes "(.*?)"')):
+def other_texts(rows):
+    """The numbers and texts of the reasons for which arrays and columns are refused: of the code and of its definition."""
+    wanted = [(row.number, row.text) for kind in ("array", "csv", "line") for row in of_kind(rows, kind)]
+    for file, line in (
+        ("src/reason_texts.rt", r'^ *(\d+) => "(.*)",$'),
+        ("specs/Texts.antt", r'if number == (\d+) then codes "(.*?)"'),
+    ):
         found = re.findall(line, text_of(f"{BUFFER}/{file}"), re.M)
-        yield f"{BUFFER}/{file}", wanted, [(int(number), text) for number, text in found]
+        yield f"{BUFFER}/{file}", wanted, sorted((int(number), text) for number, text in found)
+
+
+def columns(rows):
+    """The numbers and the texts of the reasons for which a column is refused, where the code and its definitions have them."""
+    for kind, form, crate, texts in (
+        ("csv", "ColumnReason", "twkb_column", "specs/Causes.antt"),
+        ("line", "LineReason", "twkb_rest", "specs/Unpacked.antt"),
+    ):
+        wanted = of_kind(rows, kind)
+        number_of = {"csv": "column_number_of", "line": "line_number_of"}[kind]
+        words_of = {"csv": "reason_words", "line": "line_words"}[kind]
+        for file, line, column in (
+            (f"crates/{crate}/src/fault.rt", rf'^ *{form}::(\w+) => "(.*)",$', "text"),
+            (f"crates/{crate}/{texts}", rf'^{words_of} (\w+) = codes "(.*)"$', "text"),
+            (f"{BUFFER}/src/column_numbers.rt", rf"^ *{form}::(\w+) => (\d+),$", "number"),
+            (f"{BUFFER}/specs/ColumnNumbers.antt", rf"^{number_of} {kind}\.(\w+) = (\d+)$", "number"),
+        ):
+            pairs = [(row.code, str(getattr(row, column))) for row in wanted]
+            yield f"{file}, {form}", pairs, re.findall(line, text_of(file), re.M)
 
 
 def c_names(rows):
     """The numbers of all reasons and statuses in the header for C."""
-    header = re.findall(r"^#define POLYTWKB_(\w+) (\d+)u", text_of("include/polytwkb.h").split("/* Styles of packed blobs")[0], re.M)
-    yield "include/polytwkb.h", sorted((row.name, row.number) for row in own(rows)), sorted((name, int(number)) for name, number in header)
+    header = re.findall(
+        r"^#define POLYTWKB_(\w+) (\d+)u", text_of("include/polytwkb.h").split("/* Styles of packed blobs")[0], re.M
+    )
+    yield "include/polytwkb.h", sorted((row.name, row.number) for row in own(rows)), sorted(
+        (name, int(number)) for name, number in header
+    )
 
 
 def constants(rows):
@@ -96,5 +139,5 @@ def constants(rows):
 
 def compared(rows):
     """Each place that is compared: its name, what should be there and what is."""
-    for part in (whole_input, array_texts, c_names, constants, statuses, bare_numbers):
+    for part in (whole_input, other_texts, columns, c_names, constants, statuses, bare_numbers):
         yield from part(rows)

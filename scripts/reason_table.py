@@ -5,14 +5,13 @@ from typing import NamedTuple
 from pages import text_of
 
 BUFFER = "crates/twkb_buffer"
-# the names that rules of rows and the command have for a reason or a status, where these are others
-OTHERS = {
-    "PointsNotAllowed": "PolylineNotAllowed", "CoordinateRange": "Range", "TooManyPoints": "TooMany", "USAGE": "ARGUMENTS",
-}
+# the name that the command has for a status, where it is another
+OTHERS = {"USAGE": "ARGUMENTS"}
 
 
 class Row(NamedTuple):
-    """A line of the table, and what the lines below it say: in the code, in docs/FORMATS.md and in the manual."""
+    """A line of the table, and what the lines below it say: in the code, in docs/FORMATS.md and in the manual, and the
+    refusal of a row that has this reason."""
 
     what: str
     number: int

@@ -7,6 +7,7 @@ Without --write each place that differs is reported: one that lacks a reason, ha
 name or text. What is compared and not made is in scripts/reason_numbers.py, the table's form in scripts/reason_table.py.
 """
 import difflib
+import glob
 import os
 import re
 import sys
@@ -15,7 +16,7 @@ from typing import NamedTuple
 
 import reason_numbers
 from pages import REPO, report, text_of
-from reason_table import BUFFER, OTHERS, of_kind, own, table
+from reason_table import BUFFER, of_kind, own, table
 
 # the type of each kind of reason in the code, the name that definitions use for it, and the function of its number
 TYPES = {"row": "RowReason", "polyline": "PolyReason", "blob": "BlobReason"}
@@ -32,7 +33,8 @@ SECTIONS = {"row": "Reasons of a record", "polyline": "Reasons of a polyline", "
 # a line of docs/FORMATS.md: its form, what it is made of, and that of the reason that is another table's
 FORMATS = {
     "row": (
-        r"\| \d+ \| `\w+(?:\(O, P\))?` \| .* \| .* \|", "| {number} | `{code}` | {text} | {formats} |",
+        r"\| \d+ \| `\w+(?:\(O, P\))?` \| .* \| .* \|",
+        "| {number} | `{code}` | {text} | {formats} |",
         "| {number} | `{code}(O, P)` | polyline at O: P | {formats} |",
     ),
     "polyline": (r"\| .* \| \w+, `[a-z ]+` \| .* \|", "| {where} | {code}, `{text}` | {place} |", None),
@@ -89,28 +91,55 @@ def text_places(rows):
     """Where the variants and the texts are."""
     for kind, (code, definition, words) in TEXTS.items():
         reasons = of_kind(rows, kind)
-        yield Place(f"crates/{code}", r"(?:    ///.*\n)+(?:    #\[error.*\n)?    \w+(?:\(.*\))?,", variants(rows, kind), f"enum {TYPES[kind]} {{")
+        yield Place(
+            f"crates/{code}",
+            r"(?:    ///.*\n)+(?:    #\[error.*\n)?    \w+(?:\(.*\))?,",
+            variants(rows, kind),
+            f"enum {TYPES[kind]} {{",
+        )
         yield Place(
             f"crates/{code}",
             rf' +{TYPES[kind]}::\w+(?:\(_, why\))? => (?:".*"|why\.text\(\)),',
-            each(reasons, f'            {TYPES[kind]}::{{code}} => "{{text}}",', "            RowReason::Polyline(_, why) => why.text(),"),
+            each(
+                reasons,
+                f'            {TYPES[kind]}::{{code}} => "{{text}}",',
+                "            RowReason::Polyline(_, why) => why.text(),",
+            ),
         )
-        yield from clauses(rows, kind, f"crates/{definition}", ("words", words), 'codes "{text}"', "offset reason) = point_text_words reason")
+        yield from clauses(
+            rows,
+            kind,
+            f"crates/{definition}",
+            ("words", words),
+            'codes "{text}"',
+            "offset reason) = point_text_words reason",
+        )
+
+
+def ruled(rows):
+    """The reasons that a record has for the refusal of its row."""
+    return [row for row in rows if "rule" in row.said]
 
 
 def rule_places(rows):
     """Where the reasons of the engine are those of the grammar, and the reasons of records those of rules of rows."""
     lines = each(of_kind(rows, "blob"), "reason_of reason.{code} = fault.{code}")
     yield Place("crates/twkb_engine/specs/Stops.antt", r"reason_of reason\.\w+ = fault\.\w+", lines)
-    rules = re.findall(r"^    (\w+),$", text_of("crates/twkb_tree/src/row_checks.rt").split("pub enum Refusal {")[1].split("\n}\n")[0], re.M)
-    numbers = {row.code: row.number for row in of_kind(rows, "polyline") + of_kind(rows, "row")}
-    texts = [row.code for row in of_kind(rows, "polyline")]
-    codes = [(OTHERS.get(rule, rule), rule) for rule in rules]
-    in_order = sorted(codes, key=lambda pair: numbers.get(pair[0], 0))
-    lines = [f"rule_reason Refusal.{rule} = " + (f"row.Polyline 0 text.{code}" if code in texts else f"row.{code}") for code, rule in in_order]
-    yield Place("crates/twkb_table/specs/Judged.antt", r"rule_reason Refusal\.\w+ = row\..*", lines)
-    lines = [f"        Refusal::{rule} => RowReason::" + (f"Polyline(0, PolyReason::{code})," if code in texts else f"{code},") for code, rule in in_order]
-    yield Place("crates/twkb_table/src/places.rt", r" +Refusal::\w+ => RowReason::.*", lines)
+    for file, form, line, of_text in (
+        (
+            "crates/twkb_table/specs/Judged.antt",
+            r"rule_reason Refusal\.\w+ = row\..*",
+            "rule_reason Refusal.{rule} = row.{code}",
+            "rule_reason Refusal.{rule} = row.Polyline 0 text.{code}",
+        ),
+        (
+            "crates/twkb_table/src/places.rt",
+            r" +Refusal::\w+ => RowReason::.*",
+            "        Refusal::{rule} => RowReason::{code},",
+            "        Refusal::{rule} => RowReason::Polyline(0, PolyReason::{code}),",
+        ),
+    ):
+        yield Place(file, form, [row.put(of_text if row.what == "polyline" else line) for row in ruled(rows)])
 
 
 def unequal(called, numbers):
@@ -130,13 +159,28 @@ def number_places(rows):
         yield Place(
             f"{BUFFER}/src/reason_numbers.rt",
             rf" +{TYPES[kind]}::\w+(?:\(_, why\))? => (?:\d+|point_text_number\(why\)),",
-            each(reasons, f"        {TYPES[kind]}::{{code}} => {{number}},", "        RowReason::Polyline(_, why) => point_text_number(why),"),
+            each(
+                reasons,
+                f"        {TYPES[kind]}::{{code}} => {{number}},",
+                "        RowReason::Polyline(_, why) => point_text_number(why),",
+            ),
         )
         found = each(reasons, f"        {{number}} => Some({TYPES[kind]}::{{code}}),")
         yield Place(f"{BUFFER}/src/reason_texts.rt", rf" +\d+ => Some\({TYPES[kind]}::\w+\),", found)
-        yield from clauses(rows, kind, f"{BUFFER}/specs/Numbers.antt", ("number_of", number_of), "{number}", "offset why) = point_text_number_of why")
+        yield from clauses(
+            rows,
+            kind,
+            f"{BUFFER}/specs/Numbers.antt",
+            ("number_of", number_of),
+            "{number}",
+            "offset why) = point_text_number_of why",
+        )
         called = {"row": "NamesNoRow", "polyline": "NamesNoPointText", "blob": "NamesNoBlob"}[kind]
-        yield Place(f"{BUFFER}/specs/Texts.antt", rf"{called} n =(?: .*|(?:\n    .*)+)", unequal(called, [row.number for row in own(reasons)]))
+        yield Place(
+            f"{BUFFER}/specs/Texts.antt",
+            rf"{called} n =(?: .*|(?:\n    .*)+)",
+            unequal(called, [row.number for row in own(reasons)]),
+        )
 
 
 def proof_places(rows):
@@ -144,11 +188,16 @@ def proof_places(rows):
     file = f"{BUFFER}/proofs/RunLemmas.antt"
     reasons = {kind: own(of_kind(rows, kind)) for kind in TYPES}
     causes = (
-        each(reasons["row"], "cause.Row 0 row.{code}") + each(reasons["polyline"], "cause.Row 0 (row.Polyline 0 text.{code})")
+        each(reasons["row"], "cause.Row 0 row.{code}")
+        + each(reasons["polyline"], "cause.Row 0 (row.Polyline 0 text.{code})")
         + each(reasons["blob"], "cause.Blob 0 blob.{code}")
     )
     yield Place(file, r"    cause\.(?:Row|Blob) 0 .* ∷", [f"    {cause} ∷" for cause in causes])
-    for kind, lemma in (("polyline", "no_point_text n lacks"), ("row", "no_row n lacks points"), ("blob", "no_blob n lacks")):
+    for kind, lemma in (
+        ("polyline", "no_point_text n lacks"),
+        ("row", "no_row n lacks points"),
+        ("blob", "no_blob n lacks"),
+    ):
         name = NAMES[kind]
         lines = [f"{lemma} {name}.{row.code} = λ e. lacks.{at} (sym e)" for at, row in enumerate(reasons[kind])]
         yield Place(file, rf"{lemma} {name}\.\w+ = .*", lines)
@@ -156,8 +205,18 @@ def proof_places(rows):
 
 def name_places(rows):
     """Where the numbers and names of reasons and statuses are for C, Python and JavaScript."""
-    for kind, digits in (("row", r"1?\d"), ("polyline", r"[23]\d"), ("blob", r"[45]\d")):
-        yield Place("include/polytwkb.h", rf"#define POLYTWKB_\w+ {digits}u", each(own(of_kind(rows, kind)), "#define POLYTWKB_{name} {number}u"))
+    for kind, digits in (
+        ("row", r"1?\d"),
+        ("polyline", r"[23]\d"),
+        ("blob", r"[45]\d"),
+        ("csv", r"8\d"),
+        ("line", r"9\d"),
+    ):
+        yield Place(
+            "include/polytwkb.h",
+            rf"#define POLYTWKB_\w+ {digits}u",
+            each(own(of_kind(rows, kind)), "#define POLYTWKB_{name} {number}u"),
+        )
     reasons = [row for row in rows if row.what != "status"]
     first = {row.what.upper(): row.number for row in reversed(reasons)}
     classes = {
@@ -167,7 +226,8 @@ def name_places(rows):
     }
     for name, numbers in classes.items():
         for file, heading, line in (
-            ("python/polytwkb/_reasons.py", f"class {name}:\n", "    {} = {}"), ("js/src/reasons.js", f"const {name} = {{\n", "    {}: {},"),
+            ("python/polytwkb/_reasons.py", f"class {name}:\n", "    {} = {}"),
+            ("js/src/reasons.js", f"const {name} = {{\n", "    {}: {},"),
         ):
             yield Place(file, line.format(r"\w+", r"\d+"), [line.format(*pair) for pair in numbers], heading)
 
@@ -184,7 +244,8 @@ def page_places(rows):
         reasons = of_kind(rows, kind)
         yield Place("docs/FORMATS.md", form, each(reasons, line, other))
         entries = [
-            row.put(".TP\n.B {text}\n") + roff(row.said.get("manual", row.said["doc"])) if row.name != "-"
+            row.put(".TP\n.B {text}\n") + roff(row.said.get("manual", row.said["doc"]))
+            if row.name != "-"
             else '.TP\n.BI "polyline at " O ": " reason\nThe polyline is refused, at byte\n.IR O .'
             for row in reasons
         ]
@@ -197,10 +258,10 @@ def places(rows):
         yield from part(rows)
 
 
-def write(rows):
+def written(some):
     """Writes the places that differ, and returns how many did."""
     count = 0
-    for place in places(rows):
+    for place in some:
         text, wanted = text_of(place.file), "\n".join(place.lines) + "\n"
         found = place.found(text)
         if found and found.group() != wanted:
@@ -214,27 +275,54 @@ def made(rows):
     """What the places have that are made: the place, what should be there and what is."""
     for place in places(rows):
         found = place.found(text_of(place.file))
-        yield f"{place.file}, {place.lines[0].strip().splitlines()[0]}", "\n".join(place.lines) + "\n", found.group() if found else ""
+        yield f"{place.file}, {place.lines[0].strip().splitlines()[0]}", "\n".join(
+            place.lines
+        ) + "\n", found.group() if found else ""
 
 
-def difference(wanted, found):
+def by_hand(rows):
+    """What is written by hand of each reason besides when it holds: the refusals of rows, the grammar's reasons with
+    their numbers, and the last number where the range of a kind is named."""
+    code = text_of("crates/twkb_tree/src/row_checks.rt").split("pub enum Refusal {")[1].split("\n}\n")[0]
+    rules = sorted(row.said["rule"] for row in ruled(rows))
+    yield "crates/twkb_tree/src/row_checks.rt, Refusal", rules, sorted(re.findall(r"^    (\w+),$", code, re.M))
+    blobs = of_kind(rows, "blob")
+    lines = re.search(r"^pub data Reason .*\n((?:  .*\n)+)", text_of("crates/twkb_grammar/specs/Fault.antt"), re.M)[1]
+    yield "crates/twkb_grammar/specs/Fault.antt, Reason", [row.code for row in blobs], re.findall(r"\w+", lines)[:-1]
+    file = "crates/twkb_arrays/proofs/ReadingLaws.antt"
+    pairs = re.findall(r"^fault_number grammar\.(\w+) = (\d+)$", text_of(file), re.M)
+    yield f"{file}, fault_number", [(row.code, str(row.number)) for row in blobs], pairs
+    named = [glob.glob(f"{BUFFER}/{part}", root_dir=REPO) for part in ("README.md", "specs/*.antt", "src/*.rt")]
+    for file in ["include/polytwkb.h", *sorted(sum(named, []))]:
+        for kind in {row.what: None for row in rows if row.number > 20}:
+            first, last = (at(row.number for row in of_kind(rows, kind)) for at in (min, max))
+            for found in re.findall(rf"\b{first} to (\d+)\b", text_of(file)):
+                yield f"{file}, {first} to", last, int(found)
+
+
+def difference(wanted, found, script="scripts/reasons.py"):
     """How what a place has differs from what it should have."""
     if not isinstance(wanted, str):
         return f"{found} in place of {wanted}"
     lines = difflib.unified_diff(found.splitlines(), wanted.splitlines(), lineterm="", n=0)
-    return "\n    ".join(["'scripts/reasons.py --write' would change", *[line for line in lines if not line.startswith(("---", "+++", "@@"))]])
+    return "\n    ".join(
+        [
+            f"'{script} --write' would change",
+            *[line for line in lines if not line.startswith(("---", "+++", "@@"))],
+        ]
+    )
 
 
 def compare(rows):
     """Reports each place that differs, and returns how many do."""
-    compared = [*made(rows), *reason_numbers.compared(rows)]
+    compared = [*made(rows), *by_hand(rows), *reason_numbers.compared(rows)]
     faults = [f"{place}: {difference(wanted, found)}" for place, wanted, found in compared if wanted != found]
     return report(f"scripts/reasons.txt: {len(compared)} comparisons", faults)
 
 
 def main(words=()):
     if "--write" in words:
-        print(f"{write(table())} places written")
+        print(f"{written(places(table()))} places written")
     return compare(table())
 
 

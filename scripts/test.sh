@@ -11,13 +11,13 @@ source "$(dirname "$0")/checks.bash"
 source scripts/kit.bash
 exec < /dev/null
 unset MAKEFLAGS MAKELEVEL
-parts="lint smoke completions fuzz library databases machines documents dist hostile arm64 javascript"
+parts="lint smoke completions fuzz library databases gdal machines documents dist hostile arm64 javascript"
 
 # The packages of the tools that the parts need and that are not there. Most have the tool's name; for the others the
 # list has a tool or a file, with * for any text. There is no sshd among them, which would let others in.
 lacking() {
   local tool package
-  for tool in make pkg-config lintian shellcheck pyflakes3 mypy valgrind zsh fish sqlite3 jq xxd parallel pv chromium \
+  for tool in make pkg-config lintian shellcheck shfmt black clang-format pyflakes3 mypy strace valgrind zsh fish sqlite3 jq xxd parallel pv chromium \
     firefox-esr esbuild debootstrap; do
     is_there "$tool" || echo "$tool"
   done
@@ -39,6 +39,9 @@ tsc node-typescript
 /usr/share/postgresql/*/extension/postgis.control postgresql-postgis
 /usr/include/postgresql/15/server/postgres.h postgresql-server-dev-15
 ogr2ogr gdal-bin
+c++ g++
+/usr/include/gdal/gdal.h libgdal-dev
+/usr/lib/python3/dist-packages/osgeo/ogr.py python3-gdal
 go golang-go
 aarch64-linux-gnu-gcc gcc-aarch64-linux-gnu
 /usr/aarch64-linux-gnu/include/stdio.h libc6-dev-arm64-cross
@@ -87,7 +90,10 @@ gate() {
 # lacks WHAT TOOL..: reports that this is skipped, if one of the tools is missing.
 lacks() {
   local tool
-  for tool in "${@:2}"; do is_there "$tool" || { skip "$1: $tool is not there"; return; }; done
+  for tool in "${@:2}"; do is_there "$tool" || {
+    skip "$1: $tool is not there"
+    return
+  }; done
   return 1
 }
 
@@ -95,10 +101,13 @@ lacks() {
 made() { timeout --kill-after=60 3600 make -s "$@"; }
 
 lint() { scripts/lint.sh; }
-smoke() { MEGABYTES=${MEGABYTES:-50} scripts/smoke.sh; }
+smoke() { MEGABYTES=${MEGABYTES:-50} GIGABYTES=${GIGABYTES:-5} scripts/smoke.sh; }
 completions() { scripts/completions_test.sh; }
 fuzz() {
-  lacks "reading in pieces" make cc || { made fuzz "${random[@]}"; return; }
+  lacks "reading in pieces" make cc || {
+    made fuzz "${random[@]}"
+    return
+  }
   tests/fuzz/fuzz.py --cases "$cases" --seed "$seed"
 }
 hostile() {
@@ -107,7 +116,8 @@ hostile() {
 documents() {
   python3 tests/vectors/make.py --check && scripts/docs_test.py || return 1
   tests/recipes/scripts.py && passed "the scripts of the recipes" || return 1
-  tests/recipes/installed.sh && passed "the recipes of an archive"
+  tests/recipes/installed.sh && passed "the recipes of an archive" || return 1
+  tests/geojson/readings.sh
 }
 machines() {
   local check said
@@ -122,11 +132,15 @@ machines() {
 }
 javascript() { lacks JavaScript make cc node || made wasm-test "${random[@]}"; }
 databases() { lacks "SQLite and PostgreSQL" make cc || made databases-test "${random[@]}"; }
+gdal() { lacks GDAL make cc c++ || made gdal-test; }
 dist() { lacks dist make cc dpkg-deb || made dist-test; }
 arm64() {
   lacks "64-bit ARM" make cc aarch64-linux-gnu-gcc qemu-aarch64-static && return
   # programs linked with other functions may do anything, so none is run
-  packaging/arm64/shims/compare.sh || { failed "arm64: the functions of C are not the kit's"; return 1; }
+  packaging/arm64/shims/compare.sh || {
+    failed "arm64: the functions of C are not the kit's"
+    return 1
+  }
   passed "arm64: the functions of C are the kit's"
   made arm64-test
 }
@@ -158,7 +172,10 @@ part() {
   elif [ "$skipped" -gt 0 ]; then
     told+=$'\n'$(grep '^skip ' "$log")
   fi
-  { flock 8; printf '%s\n' "$told"; } 8> "$work/lock"
+  {
+    flock 8
+    printf '%s\n' "$told"
+  } 8> "$work/lock"
   echo "$passed passed, $failed failed" > "$work/$name.counts"
 }
 
@@ -188,9 +205,9 @@ if [ $status -eq 0 ]; then
   lane hostile &
   # Of what several parts would build at the same time, first what needs nothing of the others.
   if is_there aarch64-linux-gnu-gcc; then programs_for_arm64 > "$work/arm64_programs.log" 2>&1 & fi
-  make -s lib static wasm databases > "$work/build.log" 2>&1 || tail -n 20 "$work/build.log"
+  make -s lib static wasm databases gdal > "$work/build.log" 2>&1 || tail -n 20 "$work/build.log"
   lane documents machines library &
-  lane javascript databases &
+  lane javascript databases gdal &
   if is_there aarch64-linux-gnu-gcc; then
     # begins with what was checked for the library of this processor
     mkdir -p out/arm64

@@ -36,13 +36,16 @@ fuzz() {
 
 # Each check of the page and the package in a browser as a line.
 in_browser() {
-  is_there "$1" || { skip "the page in $1: it is not there"; return; }
+  is_there "$1" || {
+    skip "the page in $1: it is not there"
+    return
+  }
   head -c 4000000 "$work/cases" > "$work/first_cases"
   node js/tests/browser.mjs "$work/first_cases" "$work" "$1" || touch "$work/failed"
 }
 # The package as a program has it, and a bundle of that program, which finds the module beside it.
 bundled() {
-  esbuild js/tests/bundled.mjs --bundle --format=esm --platform=node --outdir="$work/bundle" --loader:.wasm=file \
+  esbuild js/tests/bundled.mjs --bundle --format=esm --outdir="$work/bundle" --loader:.wasm=file \
     --asset-names='[name]' --alias:polytwkb="$PWD/js/polytwkb.js" --alias:polytwkb-module="$PWD/js/polytwkb.wasm" &&
     node "$work/bundle/bundled.js"
 }
@@ -51,18 +54,11 @@ bundled() {
 engines() {
   local target
   for target in esnext chrome91,firefox89,safari16.4,node20; do
-    esbuild js/polytwkb.js --bundle --format=esm --platform=neutral --external:node:fs/promises --log-level=error \
+    esbuild js/polytwkb.js --bundle --format=esm --platform=neutral --log-level=error \
       --target="$target" --outfile="$work/engines/$target.js" || return 1
   done
   cmp "$work/engines/"*.js && grep -q 'Node from 20, Chromium and Edge from 91, Firefox from 89 and Safari from 16.4' js/README.md &&
     grep -q 'Chromium and Edge 91, Firefox 89, Safari 16.4, Node 20' js/polytwkb.d.ts
-}
-# What a caller of CommonJS reads.
-required() {
-  local said
-  mkdir -p "$work/required/node_modules" && ln -s "$PWD/js" "$work/required/node_modules/polytwkb" &&
-    said=$(cd "$work/required" && node -e 'try { require("polytwkb").load.call; console.log("it is there") } catch (fault) { console.log(fault.message) }') || return 1
-  [[ $said == "it is there" || $said == "polytwkb is an ES module: use import, or await import('polytwkb')" ]] && echo "$said"
 }
 typed() { tsc --noEmit --strict --target es2022 --module es2022 --moduleResolution node --lib es2022,dom js/tests/types.ts; }
 
@@ -80,9 +76,10 @@ told "memory: the same with 20 pages" node --wasm-max-mem-pages=20 js/tests/heap
 told "memory: each growth refused" node js/tests/growth.mjs js/polytwkb.wasm
 told "memory: the package with little" node --wasm-max-mem-pages=3 js/tests/little.mjs "$work/cases"
 told "memory: 300 MB" node js/tests/large.mjs 300
+told "memory: a stream of 64 MB in pieces" node --expose-gc js/tests/endless.mjs 64
+scripts/npx_test.sh || touch "$work/failed"
 needing esbuild "bundle: by esbuild" bundled
 needing esbuild "engines: the syntax that the package asks for" engines
-told "a program that requires it" required
 needing tsc "types: by tsc" typed
 in_browser chromium
 in_browser firefox-esr

@@ -37,7 +37,9 @@ def points(chance, count):
 
 def polygons(chance, count):
     columns = {
-        "kind": [Kind.POLYGON, Kind.RING, Kind.RING] * count, "counts": [0, 5, 5] * count, "depth": [0, 1, 1] * count,
+        "kind": [Kind.POLYGON, Kind.RING, Kind.RING] * count,
+        "counts": [0, 5, 5] * count,
+        "depth": [0, 1, 1] * count,
         "precision": [PRECISION, NO_PRECISION, NO_PRECISION] * count,
     }
     return columns, numpy.concatenate([SQUARE, HOLE])[None] + chance.integers(-10_000_000, 10_000_000, (count, 1, 2))
@@ -58,7 +60,11 @@ def least(calls):
 def told(name, ways, count):
     """Prints the times of several ways in microseconds a geometry, and as many times the first."""
     times, found = least(list(ways.values()))
-    print(f"{name}:", ", ".join(f"{way} {1e6 * own / count:.2f} ({own / times[0]:.2f})" for way, own in zip(ways, times)), flush=True)
+    print(
+        f"{name}:",
+        ", ".join(f"{way} {1e6 * own / count:.2f} ({own / times[0]:.2f})" for way, own in zip(ways, times)),
+        flush=True,
+    )
     return found
 
 
@@ -66,25 +72,52 @@ def compare(name, count, columns, coordinates):
     stream = polytwkb.write(columns, coordinates.reshape(-1, 2))
     blobs = polytwkb.split(stream)
     print(f"{count} {name}, {len(stream) / 1e6:.1f} MB, microseconds a geometry")
-    _, _, column, *_ = told("  reading", {
-        "read": lambda: polytwkb.read(stream), "read in units": lambda: polytwkb.read(stream, degrees=False),
-        "ragged": lambda: polytwkb.ragged(stream), "ragged of a list": lambda: polytwkb.ragged(blobs),
-    }, count)
-    told("  writing", {
-        "write of units": lambda: polytwkb.write(columns, coordinates.reshape(-1, 2)), "pack_ragged": lambda: polytwkb.pack_ragged(column, PRECISION),
-    }, count)
+    _, _, column, *_ = told(
+        "  reading",
+        {
+            "read": lambda: polytwkb.read(stream),
+            "read in units": lambda: polytwkb.read(stream, degrees=False),
+            "ragged": lambda: polytwkb.ragged(stream),
+            "ragged of a list": lambda: polytwkb.ragged(blobs),
+            "boxes": lambda: polytwkb.boxes(stream),
+            "to_wkb": lambda: polytwkb.to_wkb(stream),
+        },
+        count,
+    )
+    wkbs = polytwkb.to_wkb(stream)
+    told(
+        "  writing",
+        {
+            "write of units": lambda: polytwkb.write(columns, coordinates.reshape(-1, 2)),
+            "pack_ragged": lambda: polytwkb.pack_ragged(column, PRECISION),
+            "from_wkb": lambda: polytwkb.from_wkb(wkbs, PRECISION),
+        },
+        count,
+    )
     series = geopandas.GeoSeries(polytwkb.shapes(blobs))
-    _, packed = told("  shapes to blobs", {
-        "to_wkb": series.to_wkb, "pack_geometries": lambda: polytwkb.pack_geometries(series, PRECISION),
-    }, count)
+    _, packed = told(
+        "  shapes to blobs",
+        {
+            "to_wkb": series.to_wkb,
+            "pack_geometries": lambda: polytwkb.pack_geometries(series, PRECISION),
+        },
+        count,
+    )
     assert packed == stream
-    wkbs = series.to_wkb().tolist()
-    told("  blobs to shapes", {"wkb.loads": lambda: list(map(shapely.wkb.loads, wkbs)), "shapes": lambda: polytwkb.shapes(blobs)}, count)
+    told(
+        "  blobs to shapes",
+        {"wkb.loads": lambda: list(map(shapely.wkb.loads, wkbs)), "shapes": lambda: polytwkb.shapes(blobs)},
+        count,
+    )
 
 
 def main():
     chance, share = numpy.random.default_rng(1), int(sys.argv[1]) if len(sys.argv) > 1 else 1
-    for name, count, make in (("lines", 200_000, lines), ("points", 1_000_000, points), ("polygons", 100_000, polygons)):
+    for name, count, make in (
+        ("lines", 200_000, lines),
+        ("points", 1_000_000, points),
+        ("polygons", 100_000, polygons),
+    ):
         compare(name, count // share, *make(chance, count // share))
 
 

@@ -38,7 +38,8 @@ int main(void) {
     double best = 1e9;
     for (int round = 0; round < ROUNDS; round++) {
         double start = now();
-        for (int call = 0; call < CALLS; call++) sent(polytwkb_unpack(point, sizeof point, small, sizeof small, limits));
+        for (int call = 0; call < CALLS; call++)
+            sent(polytwkb_unpack(point, sizeof point, small, sizeof small, limits));
         double took = (now() - start) / CALLS;
         if (took < best) best = took;
     }
@@ -62,8 +63,8 @@ int main(void) {
         if (measured_at - unpacked_at < measure) measure = measured_at - unpacked_at;
     }
     if (unpacked != length || memcmp(back, table, length) != 0) return 1;
-    printf("%zu bytes of table: pack %.0f MB/s, measure %.0f MB/s, unpack %.0f MB/s\n", length, 1e-6 * (double)length / pack,
-           1e-6 * (double)length / measure, 1e-6 * (double)length / unpack);
+    printf("%zu bytes of table: pack %.0f MB/s, measure %.0f MB/s, unpack %.0f MB/s\n", length,
+           1e-6 * (double)length / pack, 1e-6 * (double)length / measure, 1e-6 * (double)length / unpack);
     free(table), free(stream), free(back);
     return 0;
 }

@@ -64,7 +64,12 @@ def compare(name, package, call, given, count, room, size, *more):
 def told(name, calls, points, rounds=FEW_ROUNDS):
     """Times of several ways, in nanoseconds a point and as many times the first."""
     times = best(list(calls.values()), rounds)
-    print(f"{name}:", ", ".join(f"{way} {1e9 * own / points:.1f} ns a point ({own / times[0]:.2f})" for way, own in zip(calls, times)))
+    print(
+        f"{name}:",
+        ", ".join(
+            f"{way} {1e9 * own / points:.1f} ns a point ({own / times[0]:.2f})" for way, own in zip(calls, times)
+        ),
+    )
 
 
 def read_by_text(stream):
@@ -81,20 +86,38 @@ def compare_arrays(chance):
     for line in lines:
         flat.extend(line)
     count = len(flat) // 2
-    stream = polytwkb.pack("depth,kind,id,precision,polyline\n" + "".join(f"0,linestring,,5,{polytwkb.encode(line)}\n" for line in lines))
+    stream = polytwkb.pack(
+        "depth,kind,id,precision,polyline\n" + "".join(f"0,linestring,,5,{polytwkb.encode(line)}\n" for line in lines)
+    )
     memories = [memory_of(size) for size in (24 * LONG, 16 * count)]
     for memory in memories:
         ctypes.memset(address_of(memory), 0, len(memory))
 
     def read(rows, points):
-        assert library.polytwkb_read(stream, len(stream), address_of(rows), LONG, address_of(points), count, LIMITS).status == 0
+        arrays = address_of(rows), LONG, address_of(points), count
+        no_ends = address_of(rows), 0
+        assert library.polytwkb_read(stream, len(stream), *arrays, *no_ends, LIMITS, 0).status == 0
 
     print(f"arrays: {len(stream) / 1e6:.1f} MB, {count} points")
-    told("read", {
-        "the library into used memory": lambda: read(*memories), "into new memory": lambda: read(memory_of(24 * LONG), memory_of(16 * count)),
-        "the package": lambda: polytwkb.read(stream, degrees=False), "in degrees": lambda: polytwkb.read(stream),
-    }, count)
-    told("read otherwise", {"the package": lambda: polytwkb.read(stream, degrees=False), "by table and decode_flat": lambda: read_by_text(stream)}, count, 3)
+    told(
+        "read",
+        {
+            "the library into used memory": lambda: read(*memories),
+            "into new memory": lambda: read(memory_of(24 * LONG), memory_of(16 * count)),
+            "the package": lambda: polytwkb.read(stream, degrees=False),
+            "in degrees": lambda: polytwkb.read(stream),
+        },
+        count,
+    )
+    told(
+        "read otherwise",
+        {
+            "the package": lambda: polytwkb.read(stream, degrees=False),
+            "by table and decode_flat": lambda: read_by_text(stream),
+        },
+        count,
+        3,
+    )
     compare_others(stream, lines[: LONG // 10])
     compare_writing("lines", stream)
     corners = walk(chance, LONG)
@@ -120,15 +143,28 @@ def compare_writing(name, stream):
     columns = rows.kind.tolist(), rows.precision.tolist(), rows.counts.tolist()
 
     def written(memory):
-        assert library.polytwkb_write(records, len(rows), flat, len(points), address_of(memory), room, LIMITS, 0).status == 0
+        assert (
+            library.polytwkb_write(
+                records, len(rows), flat, len(points), address_of(memory), room, address_of(memory), 0, LIMITS, 0, 0
+            ).status
+            == 0
+        )
 
     assert polytwkb.write(rows, points) == write_by_text(*columns, numbers) == stream
     print(f"arrays of {name}: {room / 1e6:.1f} MB, {len(rows)} rows, {len(points)} points")
-    told("write", {
-        "the library into used memory": lambda: written(used), "into new memory": lambda: written(memory_of(room)),
+    told(
+        "write",
+        {
+            "the library into used memory": lambda: written(used),
+            "into new memory": lambda: written(memory_of(room)),
+            "the package": lambda: polytwkb.write(rows, points),
+        },
+        len(points),
+    )
+    ways = {
         "the package": lambda: polytwkb.write(rows, points),
-    }, len(points))
-    ways = {"the package": lambda: polytwkb.write(rows, points), "by table and encode": lambda: write_by_text(*columns, numbers)}
+        "by table and encode": lambda: write_by_text(*columns, numbers),
+    }
     told("write otherwise", ways, len(points), 3)
 
 
@@ -138,23 +174,36 @@ def compare_others(stream, lines):
     if polyline:
         pairs = [list(zip(*[iter(line)] * 2)) for line in lines]
         texts = [polyline.encode(line, 0) for line in pairs]
-        told("python3-polyline", {
-            "decode": lambda: [polyline.decode(text, 0) for text in texts], "encode": lambda: [polyline.encode(line, 0) for line in pairs],
-        }, count, 3)
+        told(
+            "python3-polyline",
+            {
+                "decode": lambda: [polyline.decode(text, 0) for text in texts],
+                "encode": lambda: [polyline.encode(line, 0) for line in pairs],
+            },
+            count,
+            3,
+        )
     script = os.path.join(os.path.dirname(os.path.abspath(__file__)), "dump_points.sh")
     blobs = "".join(blob.hex() + "\n" for blob in polytwkb.split(stream))
     said = subprocess.run([script], input=blobs, stdout=subprocess.PIPE, text=True, check=False).stdout.strip()
-    print(f"PostGIS, ST_DumpPoints: {float(said) * 1e6 / (LONG * POINTS):.1f} ns a point" if said[:1].isdigit() else said)
+    print(
+        f"PostGIS, ST_DumpPoints: {float(said) * 1e6 / (LONG * POINTS):.1f} ns a point" if said[:1].isdigit() else said
+    )
 
 
 def compare_floats(chance):
     """Rounding of floats."""
     flat = array("d", [chance.uniform(-180, 180) for _ in range(400_000)])
     pairs = list(zip(flat[::2], flat[1::2]))
-    told("encode with rounding", {
-        "an array of floats": lambda: polytwkb.encode(flat, 5), "pairs of floats": lambda: polytwkb.encode(pairs, 5),
-        "pairs of whole numbers": lambda: polytwkb.encode(((1, 2),) * len(pairs)),
-    }, len(pairs))
+    told(
+        "encode with rounding",
+        {
+            "an array of floats": lambda: polytwkb.encode(flat, precision=5),
+            "pairs of floats": lambda: polytwkb.encode(pairs, precision=5),
+            "pairs of whole numbers": lambda: polytwkb.encode(((1, 2),) * len(pairs)),
+        },
+        len(pairs),
+    )
 
 
 def main():
@@ -163,7 +212,9 @@ def main():
     table += "".join(f"0,linestring,,5,{polytwkb.encode(walk(chance, POINTS))}\n" for _ in range(LINES))
     given, stream = table.encode(), polytwkb.pack(table)
     compare("pack", lambda: polytwkb.pack(table), library.polytwkb_pack, given, len(given), len(given), 1, LIMITS, 0)
-    compare("unpack", lambda: polytwkb.unpack(stream), library.polytwkb_unpack, stream, len(stream), len(given), 1, LIMITS)
+    compare(
+        "unpack", lambda: polytwkb.unpack(stream), library.polytwkb_unpack, stream, len(stream), len(given), 1, LIMITS
+    )
     points = walk(chance, MANY)
     flat, text = points.tobytes(), polytwkb.encode(points)
     letters = text.encode()

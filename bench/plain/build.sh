@@ -12,18 +12,18 @@ cd "$copy"
 debian=/usr/share/cargo/registry
 # The processor that `rt` builds for.
 if [ "$(uname -m)" = x86_64 ]; then
-    export RUSTFLAGS="-C target-cpu=x86-64-v2"
+  export RUSTFLAGS="-C target-cpu=x86-64-v2"
 fi
 build() {
-    cargo build --quiet --release --target-dir .. "$@"
+  cargo build --quiet --release --target-dir .. "$@"
 }
 cp Cargo.toml alone.toml
 echo 'csv = "1"' >> Cargo.toml
 if compgen -G "$debian/csv-1.*" > /dev/null; then
-    build --offline --features by-csv --config 'source.crates-io.replace-with = "debian"' \
-        --config "source.debian.directory = \"$debian\""
+  build --offline --features by-csv --config 'source.crates-io.replace-with = "debian"' \
+    --config "source.debian.directory = \"$debian\""
 elif ! build --features by-csv 2> /dev/null; then
-    mv alone.toml Cargo.toml
-    rm -f Cargo.lock
-    build --offline
+  mv alone.toml Cargo.toml
+  rm -f Cargo.lock
+  build --offline
 fi

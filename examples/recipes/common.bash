@@ -6,10 +6,13 @@ PATH=$here/../../bin:$PATH:$here/../../../../bin
 
 # Ends the demonstration, as skipped, if a tool is missing.
 need() {
-    local tool
-    for tool in "$@"; do
-        command -v "$tool" > /dev/null || { echo "skipped: needs $tool"; exit 0; }
-    done
+  local tool
+  for tool in "$@"; do
+    command -v "$tool" > /dev/null || {
+      echo "skipped: needs $tool"
+      exit 0
+    }
+  done
 }
 
 need polytwkb

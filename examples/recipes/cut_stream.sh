@@ -3,7 +3,7 @@
 source "$(dirname "$0")/common.bash"
 need python3
 
-polytwkb pack > my.twkb <<'TABLE'
+polytwkb pack > my.twkb << 'TABLE'
 depth,kind,id,precision,polyline
 0,point,,5,yop}Gysml@
 0,multipoint,,5,
@@ -15,6 +15,7 @@ TABLE
 
 mkdir blobs && python3 $RECIPES/cut_stream.py my.twkb blobs
 cat blobs/* | cmp - my.twkb
-(cd blobs && wc -c -- *)
+(cd blobs && wc -c -- *) | cmp - <(printf '%s\n' \
+  '10 blob-000000000000.twkb' '30 blob-000000000010.twkb' '13 blob-000000000040.twkb' '53 total')
 python3 $RECIPES/cut_stream.py my.twkb > my.hex
 cat my.hex

@@ -8,7 +8,9 @@ SHAPES = {
     "route": "LINESTRING (7.44781 46.94797, 7.44432 46.94758, 7.44107 46.9469, 7.4391 46.94886)",
     "square": "POLYGON ((7.4438 46.9471, 7.4446 46.9471, 7.4446 46.9477, 7.4438 46.9477, 7.4438 46.9471))",
 }
-frame = geopandas.GeoDataFrame(index=list(SHAPES), geometry=[wkt.loads(text) for text in SHAPES.values()], crs="EPSG:4326")
+frame = geopandas.GeoDataFrame(
+    index=list(SHAPES), geometry=[wkt.loads(text) for text in SHAPES.values()], crs="EPSG:4326"
+)
 frame.loc["unknown", "geometry"] = None
 
 frame["twkb"] = polytwkb.pack_geometries(frame.geometry, 5).blobs

@@ -4,8 +4,11 @@ source "$(dirname "$0")/common.bash"
 need node
 
 package=$here/../../js
-[ -e "$package/polytwkb.wasm" ] || { echo "skipped: needs make wasm"; exit 0; }
-polytwkb pack > shapes.twkb <<'END'
+[ -e "$package/polytwkb.wasm" ] || {
+  echo "skipped: needs make wasm"
+  exit 0
+}
+polytwkb pack > shapes.twkb << 'END'
 depth,kind,id,precision,polyline
 0,linestring,,5,yop}Gysml@lAxTfChSgKhK
 0,polygon,,0,
@@ -18,7 +21,7 @@ depth,kind,id,precision,polyline
 1,linestring,2,5,
 END
 
-cat > client.mjs <<END
+cat > client.mjs << END
 import { createReadStream, readFileSync } from 'node:fs';
 import { geometries, load, stream } from '$package/polytwkb.js';
 
@@ -34,7 +37,7 @@ END
 node client.mjs > seen.txt
 
 printf 'depth,kind,id,precision,polyline\n0,linestring,,5,yop}Gysml@lAxTfChSgKhK\n0,linestring,,5,AC\n' | polytwkb pack > lines.twkb
-cat > layers.mjs <<END
+cat > layers.mjs << END
 import { readFileSync } from 'node:fs';
 import { load } from '$package/polytwkb.js';
 import { deckPaths, mapLibreSource } from '$package/examples/libraries/layers.js';
@@ -47,7 +50,7 @@ console.log(type, JSON.stringify(data.features[1]));
 END
 node layers.mjs >> seen.txt
 
-cat > due.txt <<'END'
+cat > due.txt << 'END'
 {"type":"LineString","coordinates":[[7.44781,46.94797],[7.44432,46.94758],[7.44107,46.9469],[7.4391,46.94886]]}
 {"type":"Polygon","coordinates":[[[0,0],[60,0],[60,40],[0,40],[0,0]],[[20,10],[20,30],[40,30],[40,10],[20,10]]]}
 {"type":"GeometryCollection","geometries":[{"type":"MultiPoint","coordinates":[[7.44781,46.94797],[7.44107,46.9469]],"ids":[101,102]},{"type":"LineString","coordinates":[]}],"ids":[1,2]}

@@ -3,7 +3,7 @@
 source "$(dirname "$0")/common.bash"
 need python3
 
-cat > my.csv <<'END'
+cat > my.csv << 'END'
 route_id,polyline
 12,yop}Gysml@lAxTfChSgKhK
 -7,cip}Guill@\E~@vD
@@ -14,7 +14,13 @@ python3 $RECIPES/column_to_table.py --ids route_id polyline 5 my.rest < my.csv |
 polytwkb unpack < my.twkb > my.table && python3 $RECIPES/table_to_column.py polyline my.rest < my.table > again.csv
 
 polytwkb show < my.twkb
-cat my.table
+cmp - my.table << 'END'
+depth,kind,id,precision,polyline
+0,multilinestring,,5,
+1,linestring,12,,yop}Gysml@lAxTfChSgKhK
+1,linestring,-7,,cip}Guill@\E~@vD
+1,linestring,9007199254740993,,
+END
 cmp my.csv again.csv
 
 # Each member as a geometry of its own, and its id as a line of a file of keys.

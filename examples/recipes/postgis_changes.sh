@@ -4,7 +4,7 @@ source "$(dirname "$0")/postgres.bash"
 need python3
 need_postgis
 
-cat > before.csv <<'TABLE'
+cat > before.csv << 'TABLE'
 depth,kind,id,precision,polyline
 0,linestring,,0,AC??AA
 0,multipoint,,0,
@@ -23,4 +23,21 @@ python3 $RECIPES/stream_to_copy.py before.twkb | psql -c 'COPY my_blobs FROM STD
 psql -c "COPY (SELECT key, ST_AsTWKB(ST_GeomFromTWKB(twkb), 0, 0, 0, true, true) FROM my_blobs ORDER BY key::int)
     TO STDOUT (FORMAT binary)" | python3 $RECIPES/copy_to_stream.py after.keys > after.twkb
 polytwkb unpack < after.twkb > after.csv
-diff before.csv after.csv || true
+diff before.csv after.csv > changes.txt || true
+cat changes.txt
+cmp - changes.txt << 'END'
+2c2
+< 0,linestring,,0,AC??AA
+---
+> 0,linestring,,0,ACAA
+4,6c4,6
+< 1,point,7,,AC
+< 1,point,8,,GE
+< 0,collection,,5,
+---
+> 1,point,,,AC
+> 1,point,,,GE
+> 0,collection,,0,
+10d9
+< 1,linestring,,0,
+END

@@ -4,7 +4,7 @@ source "$(dirname "$0")/postgres.bash"
 need python3
 need_postgis
 
-psql <<'SQL'
+psql << 'SQL'
 CREATE TABLE my_table (id bigint PRIMARY KEY, geom geometry);
 INSERT INTO my_table VALUES
     (101, 'SRID=4326;POINT(7.44781 46.94797)'),
@@ -16,9 +16,17 @@ SQL
 psql -c "COPY (SELECT 'all', ST_AsTWKB(array_agg(ST_Force2D(geom) ORDER BY id), array_agg(id ORDER BY id),
     5, 0, 0, true, true)
     FROM my_table WHERE geom IS NOT NULL) TO STDOUT (FORMAT binary)" |
-    python3 $RECIPES/copy_to_stream.py all.keys > all.twkb
+  python3 $RECIPES/copy_to_stream.py all.keys > all.twkb
 polytwkb unpack < all.twkb > all.csv
-cat all.csv
+cmp - all.csv << 'END'
+depth,kind,id,precision,polyline
+0,collection,,5,
+1,point,101,5,yop}Gysml@
+1,linestring,103,5,yop}Gysml@lAxTfChSgKhK
+1,multipoint,104,5,
+2,point,,,??
+2,point,,,_ibE_ibE
+END
 
 awk -F, -v OFS=, 'NR == 1 { print; next } $1 == 0 { precision = $4; next }
     $1 == 1 { print $3 > "my.keys"; $3 = ""; if ($4 == "") $4 = precision }

@@ -4,7 +4,7 @@ source "$(dirname "$0")/postgres.bash"
 need python3
 need_postgis
 
-psql <<'SQL'
+psql << 'SQL'
 CREATE TABLE my_lines (id text PRIMARY KEY, geom geometry(LineString, 4326));
 INSERT INTO my_lines VALUES
     ('12', 'SRID=4326;LINESTRING(7.44781 46.94797, 7.44432 46.94758, 7.44107 46.9469, 7.4391 46.94886)'),
@@ -22,9 +22,13 @@ psql -c 'CREATE TABLE my_polylines (id text, polyline text)'
 psql -c 'COPY my_polylines FROM STDIN (FORMAT csv, HEADER)' < again.csv
 psql -c 'CREATE TABLE again AS SELECT id, ST_LineFromEncodedPolyline(polyline, 5) AS geom FROM my_polylines'
 
-cat my.csv
+cmp - my.csv << 'END'
+id,polyline
+12,yop}Gysml@lAxTfChSgKhK
+"N3, at night",cip}Guill@\E~@vD
+END
 cmp again.csv my.csv
-polytwkb show < my.twkb
+polytwkb show < my.twkb | cmp - <(printf '0 %s\n' '0 linestring 5 03 33 4' '33 linestring 5 03 26 3')
 psql -At -c 'SELECT id, ST_AsEWKT(geom) FROM again ORDER BY id'
 differ=$(psql -At -c "SELECT count(*) FROM my_lines FULL JOIN again USING (id)
     WHERE ST_AsEWKT(my_lines.geom, 5) IS DISTINCT FROM ST_AsEWKT(again.geom, 5)")

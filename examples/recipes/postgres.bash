@@ -12,33 +12,36 @@ need initdb pg_ctl
 # that look there, and links to all else.
 version=${bindir//[!0-9]/}
 if [ -n "$version" ] && [ -z "${NO_OWN_EXTENSION:-}" ] && [ -e "$here/../../out/postgresql/$version/polytwkb.so" ]; then
-    for part in lib share; do
-        mkdir -p "$folder/server/usr/$part/postgresql"
-        # a file that a package brings or takes away meanwhile may be missing
-        cp -as "/usr/$part/postgresql/$version" "$folder/server/usr/$part/postgresql" 2> cp.log || true
-    done
-    cp --remove-destination "$bindir"/{postgres,initdb,pg_ctl} "$folder/server$bindir"
-    cp --remove-destination "$here/../../out/postgresql/$version/polytwkb.so" "$folder/server${bindir%/bin}/lib"
-    cp --remove-destination "$here/../../out/postgresql/$version"/polytwkb{.control,--*.sql} \
-        "$folder/server/usr/share/postgresql/$version/extension"
-    PATH=$folder/server$bindir:$PATH
+  for part in lib share; do
+    mkdir -p "$folder/server/usr/$part/postgresql"
+    # a file that a package brings or takes away meanwhile may be missing
+    cp -as "/usr/$part/postgresql/$version" "$folder/server/usr/$part/postgresql" 2> cp.log || true
+  done
+  cp --remove-destination "$bindir"/{postgres,initdb,pg_ctl} "$folder/server$bindir"
+  cp --remove-destination "$here/../../out/postgresql/$version/polytwkb.so" "$folder/server${bindir%/bin}/lib"
+  cp --remove-destination "$here/../../out/postgresql/$version"/polytwkb{.control,--*.sql} \
+    "$folder/server/usr/share/postgresql/$version/extension"
+  PATH=$folder/server$bindir:$PATH
 fi
 
 # The server refuses to run as root.
 if [ "$(id -u)" = 0 ]; then
-    need runuser
-    getent passwd postgres > /dev/null || { echo "skipped: needs the user postgres"; exit 0; }
-    as_server() { runuser -u postgres -- env "PATH=$PATH" "$@"; }
-    chown postgres "$folder"
-    chmod 755 "$folder"
+  need runuser
+  getent passwd postgres > /dev/null || {
+    echo "skipped: needs the user postgres"
+    exit 0
+  }
+  as_server() { runuser -u postgres -- env "PATH=$PATH" "$@"; }
+  chown postgres "$folder"
+  chmod 755 "$folder"
 else
-    as_server() { "$@"; }
+  as_server() { "$@"; }
 fi
 
 # What is written need not outlast the machine, so nothing waits for the disk.
 as_server initdb -D "$folder/data" -U recipe -A trust -E UTF8 --locale=C --no-sync > initdb.log
 as_server pg_ctl -D "$folder/data" -o "-k $folder -c listen_addresses='' -c fsync=off ${SERVER_OPTIONS:-}" -w \
-    -l "$folder/server.log" start > /dev/null
+  -l "$folder/server.log" start > /dev/null
 trap 'as_server pg_ctl -D "$folder/data" -m immediate -w stop > /dev/null; rm -rf "$folder"' EXIT
 export PGHOST=$folder PGUSER=recipe PGDATABASE=postgres PGOPTIONS='-c client_min_messages=warning'
 
@@ -46,11 +49,17 @@ export PGHOST=$folder PGUSER=recipe PGDATABASE=postgres PGOPTIONS='-c client_min
 psql() { command psql -X -q -v ON_ERROR_STOP=1 "$@"; }
 
 need_postgis() {
-    psql -c 'CREATE EXTENSION postgis' 2> fault.txt ||
-        { echo "skipped: needs postgis ($(head -n 1 fault.txt))"; exit 0; }
+  psql -c 'CREATE EXTENSION postgis' 2> fault.txt ||
+    {
+      echo "skipped: needs postgis ($(head -n 1 fault.txt))"
+      exit 0
+    }
 }
 
 need_polytwkb() {
-    psql -c 'CREATE EXTENSION polytwkb' 2> fault.txt ||
-        { echo "skipped: needs the extension polytwkb ($(head -n 1 fault.txt))"; exit 0; }
+  psql -c 'CREATE EXTENSION polytwkb' 2> fault.txt ||
+    {
+      echo "skipped: needs the extension polytwkb ($(head -n 1 fault.txt))"
+      exit 0
+    }
 }

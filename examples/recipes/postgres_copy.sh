@@ -4,26 +4,31 @@
 source "$(dirname "$0")/postgres.bash"
 need python3
 
-psql <<'END'
+psql << 'END'
 CREATE TABLE my_table (key text PRIMARY KEY, polyline text);
 INSERT INTO my_table VALUES ('12', 'yop}Gysml@lAxTfChSgKhK'), ('14', NULL), ('N3, at night', 'cip}Guill@\E~@vD');
 END
 
-psql -c "COPY (SELECT 0 AS depth, 'linestring' AS kind, NULL AS id, 5 AS precision, polyline FROM my_table ORDER BY key)
-    TO STDOUT (FORMAT csv, HEADER)" | polytwkb pack > my.twkb
-psql -At -c 'SELECT key FROM my_table ORDER BY key' > my.keys
+psql -c 'COPY (SELECT key, polyline FROM my_table ORDER BY key) TO STDOUT (FORMAT csv, HEADER)' |
+  polytwkb pack --column polyline --precision 5 --hex > my.csv
 psql -c 'CREATE TABLE my_blobs (key text, twkb bytea)'
-python3 $RECIPES/stream_to_copy.py my.twkb my.keys | psql -c 'COPY my_blobs FROM STDIN (FORMAT binary)'
+psql -c 'COPY my_blobs FROM STDIN (FORMAT csv, HEADER)' < my.csv
 
-psql -c "COPY (SELECT key, twkb FROM my_blobs ORDER BY key) TO STDOUT (FORMAT binary)" |
-    python3 $RECIPES/copy_to_stream.py again.keys > again.twkb
+psql -c 'COPY (SELECT key, twkb FROM my_blobs ORDER BY key) TO STDOUT (FORMAT csv, HEADER)' |
+  polytwkb unpack --column twkb --hex > again.csv
+cat again.csv
 
-polytwkb unpack < again.twkb | tail -n +2 | paste again.keys -
+# The same blobs by the scripts of PostGIS, in their binary format.
+psql -c 'COPY (SELECT key, twkb FROM my_blobs WHERE twkb IS NOT NULL ORDER BY key) TO STDOUT (FORMAT binary)' |
+  python3 $RECIPES/copy_to_stream.py again.keys > again.twkb
+psql -c 'CREATE TABLE again (key text, twkb bytea)'
+python3 $RECIPES/stream_to_copy.py again.twkb again.keys | psql -c 'COPY again FROM STDIN (FORMAT binary)'
+[ "$(psql -At -c 'SELECT count(*) FROM my_blobs JOIN again USING (key) WHERE my_blobs.twkb = again.twkb')" = 2 ]
 
 # Where the server's user may run it.
 cp "$(command -v polytwkb)" "$folder/polytwkb"
 
-cat > trip.csv <<'END'
+cat > trip.csv << 'END'
 depth,kind,id,precision,polyline
 0,multipoint,,5,
 1,point,101,,yop}Gysml@
@@ -34,14 +39,14 @@ depth,kind,id,precision,polyline
 END
 
 # The column n keeps the order of the rows. "precision" is a word of SQL, so it is quoted.
-psql <<'END'
+psql << 'END'
 CREATE TABLE rows (n bigserial, depth int, kind text, id bigint, "precision" int, polyline text);
 CREATE TABLE back (LIKE rows INCLUDING ALL);
 \copy rows (depth, kind, id, "precision", polyline) FROM 'trip.csv' WITH (FORMAT csv, HEADER)
 END
 
 # On the server, as its user.
-psql <<END
+psql << END
 COPY (SELECT depth, kind, id, "precision", polyline FROM rows ORDER BY n)
     TO PROGRAM '$folder/polytwkb pack > $folder/server.twkb' WITH (FORMAT csv, HEADER);
 COPY back (depth, kind, id, "precision", polyline)
@@ -49,7 +54,7 @@ COPY back (depth, kind, id, "precision", polyline)
 END
 
 # On the client.
-psql <<'END'
+psql << 'END'
 \copy (SELECT depth, kind, id, "precision", polyline FROM back ORDER BY n) TO PROGRAM 'polytwkb pack > client.twkb' WITH (FORMAT csv, HEADER)
 END
 
@@ -59,12 +64,11 @@ polytwkb unpack < client.twkb | cmp - trip.csv
 echo "server and client: the same $(wc -c < client.twkb) bytes, the same rows back"
 
 # A table that is refused fails the statement; the server's log has the line.
-if psql 2> fault.txt <<END
+if psql 2> fault.txt << END; then
 COPY (SELECT depth, kind, id, 9 AS "precision", polyline FROM rows ORDER BY n)
     TO PROGRAM '$folder/polytwkb pack > $folder/refused.twkb' WITH (FORMAT csv, HEADER);
 END
-then
-    exit 1
+  exit 1
 fi
 head -n 1 fault.txt | sed "s|$folder|..|g"
 grep -h '^polytwkb:' server.log

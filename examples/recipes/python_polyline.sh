@@ -3,9 +3,9 @@
 source "$(dirname "$0")/common.bash"
 
 for python in python3 /usr/bin/python3; do
-    if "$python" -c 'import polyline' 2> /dev/null; then
-        "$python" -B "$here/python_polyline.py"
-        exit
-    fi
+  if "$python" -c 'import polyline' 2> /dev/null; then
+    "$python" -B "$here/python_polyline.py"
+    exit
+  fi
 done
 echo "skipped: needs python3-polyline"

@@ -3,7 +3,7 @@
 source "$(dirname "$0")/common.bash"
 need python3
 
-cat > shapes.txt <<'SHAPES'
+cat > shapes.txt << 'SHAPES'
 shape_id,shape_pt_lat,shape_pt_lon,shape_pt_sequence,shape_dist_traveled
 12-out,46.94797,7.44781,1,0
 N3,46.94690,7.44107,2,
@@ -17,8 +17,12 @@ SHAPES
 python3 $RECIPES/shapes_to_table.py 5 shapes.keys < shapes.txt > shapes.csv
 polytwkb pack < shapes.csv > shapes.twkb
 
-cat shapes.csv
-polytwkb unpack < shapes.twkb | python3 $RECIPES/table_to_geojson.py | paste shapes.keys -
+cmp - shapes.csv << 'END'
+depth,kind,id,precision,polyline
+0,linestring,,5,yop}Gysml@lAxTfChSgKhK
+0,linestring,,5,cip}Guill@\E~@vD
+END
+polytwkb unpack --geojson < shapes.twkb | paste shapes.keys -
 
 # The other columns beside it, and the same file again.
 python3 $RECIPES/shapes_to_table.py --rest shapes.rest 5 shapes.keys < shapes.txt | polytwkb pack > shapes.twkb

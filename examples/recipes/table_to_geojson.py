@@ -16,8 +16,15 @@ sys.dont_write_bytecode = True
 import tables
 from polylines import numbers_of
 
-NAMES = {"point": "Point", "linestring": "LineString", "polygon": "Polygon", "multipoint": "MultiPoint",
-         "multilinestring": "MultiLineString", "multipolygon": "MultiPolygon", "collection": "GeometryCollection"}
+NAMES = {
+    "point": "Point",
+    "linestring": "LineString",
+    "polygon": "Polygon",
+    "multipoint": "MultiPoint",
+    "multilinestring": "MultiLineString",
+    "multipolygon": "MultiPolygon",
+    "collection": "GeometryCollection",
+}
 
 
 def listed(texts):

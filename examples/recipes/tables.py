@@ -42,15 +42,42 @@ def delimiter_of(word):
 
 
 PRECISION = ("precision", {"type": precision_of, "help": "decimals, from -8 to 7"})
-DELIMITER = ("--delimiter", {"type": delimiter_of, "default": ",", "metavar": "CHARACTER",
-                             "help": "what is between fields, a comma if it is not given; tab for a tab"})
-NULL = ("--null", {"action": "append", "default": [], "metavar": "TEXT",
-                   "help": "a text that means a missing value, such as NULL; it may be given several times"})
-STOPS_COLUMNS = ("--columns", {"nargs": 3, "metavar": ("KEY", "LATITUDE", "LONGITUDE"),
-                               "default": ["stop_id", "stop_lat", "stop_lon"], "help": "the columns to use"})
-SHAPES_COLUMNS = ("--columns", {"nargs": 4, "metavar": ("KEY", "SEQUENCE", "LATITUDE", "LONGITUDE"),
-                                "default": ["shape_id", "shape_pt_sequence", "shape_pt_lat", "shape_pt_lon"],
-                                "help": "the columns to use"})
+DELIMITER = (
+    "--delimiter",
+    {
+        "type": delimiter_of,
+        "default": ",",
+        "metavar": "CHARACTER",
+        "help": "what is between fields, a comma if it is not given; tab for a tab",
+    },
+)
+NULL = (
+    "--null",
+    {
+        "action": "append",
+        "default": [],
+        "metavar": "TEXT",
+        "help": "a text that means a missing value, such as NULL; it may be given several times",
+    },
+)
+STOPS_COLUMNS = (
+    "--columns",
+    {
+        "nargs": 3,
+        "metavar": ("KEY", "LATITUDE", "LONGITUDE"),
+        "default": ["stop_id", "stop_lat", "stop_lon"],
+        "help": "the columns to use",
+    },
+)
+SHAPES_COLUMNS = (
+    "--columns",
+    {
+        "nargs": 4,
+        "metavar": ("KEY", "SEQUENCE", "LATITUDE", "LONGITUDE"),
+        "default": ["shape_id", "shape_pt_sequence", "shape_pt_lat", "shape_pt_lon"],
+        "help": "the columns to use",
+    },
+)
 REST = ("--rest", {"metavar": "FILE", "help": "the file for the other columns"})
 REST_BACK = ("rest", {"metavar": "REST", "help": "the file with the other columns"})
 

@@ -37,7 +37,7 @@ def converted(path, start, length, style):
     """What a part converts to: of a table in a style, of a stream if there is none."""
     part = bytes_of(path, start, length)
     if style:
-        return polytwkb.pack(HEADER + part if start else part, style)
+        return polytwkb.pack(HEADER + part if start else part, style=style)
     table = polytwkb.unpack(part).encode()
     return table[len(HEADER) :] if start else table
 

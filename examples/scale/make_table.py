@@ -30,6 +30,7 @@ def walk(random_numbers, count):
 
 def rows(random_numbers, number):
     """The rows of the geometry with that number."""
+
     def line(count):
         return polyline(walk(random_numbers, count))
 
@@ -39,8 +40,15 @@ def rows(random_numbers, number):
         lambda: ["0,polygon,,5,", f"1,ring,,,{line(30)}", f"1,ring,,,{line(5)}"],
         lambda: ["0,multipoint,,0,"] + [f"1,point,{number + k},,{line(1)}" for k in range(5)],
         lambda: ["0,multilinestring,,6,"] + [f"1,linestring,,,{line(k)}" for k in range(4)],
-        lambda: ["0,collection,,5,", f"1,point,7,5,{line(1)}", f"1,collection,{-number},0,",
-                 f"2,linestring,,0,{line(20)}", "2,multipolygon,,0,", "3,polygon,,,", f"4,ring,,,{line(9)}"],
+        lambda: [
+            "0,collection,,5,",
+            f"1,point,7,5,{line(1)}",
+            f"1,collection,{-number},0,",
+            f"2,linestring,,0,{line(20)}",
+            "2,multipolygon,,0,",
+            "3,polygon,,,",
+            f"4,ring,,,{line(9)}",
+        ],
     ][number % 6]()
 
 

@@ -5,10 +5,13 @@ here=$(cd "$(dirname "${BASH_SOURCE[0]}")" && pwd)
 PATH=$here/../../bin:$PATH
 
 need() {
-    local tool
-    for tool in "$@"; do
-        command -v "$tool" > /dev/null || { echo "skipped: needs $tool"; exit 0; }
-    done
+  local tool
+  for tool in "$@"; do
+    command -v "$tool" > /dev/null || {
+      echo "skipped: needs $tool"
+      exit 0
+    }
+  done
 }
 need "$@"
 folder=$(mktemp -d)

@@ -15,7 +15,10 @@ kit=$(dirname "$(rt doc)")
 work=$(mktemp -d)
 below=
 trap 'cleared "$work"' EXIT
-command -v $cross-gcc > /dev/null || { echo "$cross-gcc is not there: apt-get install gcc-$cross libc6-dev-arm64-cross" >&2; exit 1; }
+command -v $cross-gcc > /dev/null || {
+  echo "$cross-gcc is not there: apt-get install gcc-$cross libc6-dev-arm64-cross" >&2
+  exit 1
+}
 
 # What rattle and rattle-link read in a folder of tools: the kit's own clang, and Debian's C library of the target.
 tools() {
@@ -24,7 +27,10 @@ tools() {
   for tool in clang ld.lld llvm-ar; do ln -s "$kit/toolchain/bin/$tool" "$1/bin/$tool"; done
   for file in Scrt1.o crti.o crtn.o crtbeginS.o crtendS.o libgcc.a libc_nonshared.a libc.so.6 libm.so.6 libgcc_s.so.1 ld-linux-aarch64.so.1; do
     found=$($cross-gcc -print-file-name="$file")
-    [ -e "$found" ] || { echo "$cross-gcc has no $file" >&2; return 1; }
+    [ -e "$found" ] || {
+      echo "$cross-gcc has no $file" >&2
+      return 1
+    }
     cp -L "$found" "$1/lib/$file"
   done
 }
@@ -42,7 +48,11 @@ shims() {
 proved() {
   add_crate "$work/copy" "$1"
   over "$work/copy" "$1" "$2"
-  grep -q "^logic=proved .* target=$KIT_TARGET " "$work/copy.log" || { cat "$work/copy.log"; echo "$1 is not proved for $KIT_TARGET" >&2; return 1; }
+  grep -q "^logic=proved .* target=$KIT_TARGET " "$work/copy.log" || {
+    cat "$work/copy.log"
+    echo "$1 is not proved for $KIT_TARGET" >&2
+    return 1
+  }
 }
 
 # library CRATE: what the Makefile makes of the static library, with the other compiler.

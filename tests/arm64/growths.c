@@ -20,13 +20,9 @@ static int is_refused(void) {
     return growths >= first_refused && growths <= last_refused;
 }
 
-void *__wrap_malloc(size_t size) {
-    return is_refused() ? NULL : __real_malloc(size);
-}
+void *__wrap_malloc(size_t size) { return is_refused() ? NULL : __real_malloc(size); }
 
-void *__wrap_realloc(void *block, size_t size) {
-    return is_refused() ? NULL : __real_realloc(block, size);
-}
+void *__wrap_realloc(void *block, size_t size) { return is_refused() ? NULL : __real_realloc(block, size); }
 
 // A call of the library, with its name and its input.
 typedef struct library_call {
@@ -39,18 +35,12 @@ static polytwkb_report run(size_t number, const library_call *call) {
     polytwkb_limits limits = polytwkb_standard_limits();
     memset(output, 0xA5, sizeof output);
     switch (number) {
-    case 0:
-        return polytwkb_pack(call->input, call->length, output, ROOM, limits, POLYTWKB_FULL);
-    case 1:
-        return polytwkb_pack(call->input, call->length, output, ROOM, limits, POLYTWKB_PLAIN);
-    case 2:
-        return polytwkb_unpack(call->input, call->length, output, ROOM, limits);
-    case 3:
-        return polytwkb_show(call->input, call->length, output, ROOM, limits);
-    case 4:
-        return polytwkb_measure(POLYTWKB_PACK, call->input, call->length, limits, POLYTWKB_FULL);
-    default:
-        return polytwkb_measure(POLYTWKB_UNPACK, call->input, call->length, limits, POLYTWKB_FULL);
+    case 0: return polytwkb_pack(call->input, call->length, output, ROOM, limits, POLYTWKB_FULL);
+    case 1: return polytwkb_pack(call->input, call->length, output, ROOM, limits, POLYTWKB_PLAIN);
+    case 2: return polytwkb_unpack(call->input, call->length, output, ROOM, limits);
+    case 3: return polytwkb_show(call->input, call->length, output, ROOM, limits);
+    case 4: return polytwkb_measure(POLYTWKB_PACK, call->input, call->length, limits, POLYTWKB_FULL);
+    default: return polytwkb_measure(POLYTWKB_UNPACK, call->input, call->length, limits, POLYTWKB_FULL);
     }
 }
 
@@ -62,10 +52,11 @@ static uint64_t digest(const uint8_t *bytes, size_t length) {
 }
 
 static void print(const library_call *call, long number, const char *others, polytwkb_report report) {
-    printf("%s, growth %ld%s: status %u, reason %u, place %llu, text_offset %llu, done %llu, sent %llu, needed %llu, output %016llx\n",
-           call->name, number, others, report.status, report.reason, (unsigned long long)report.place,
-           (unsigned long long)report.text_offset, (unsigned long long)report.done, (unsigned long long)report.sent,
-           (unsigned long long)report.needed, (unsigned long long)digest(output, ROOM));
+    printf(
+        "%s, growth %ld%s: status %u, reason %u, place %llu, text_offset %llu, done %llu, sent %llu, needed %llu, output %016llx\n",
+        call->name, number, others, report.status, report.reason, (unsigned long long)report.place,
+        (unsigned long long)report.text_offset, (unsigned long long)report.done, (unsigned long long)report.sent,
+        (unsigned long long)report.needed, (unsigned long long)digest(output, ROOM));
 }
 
 int main(void) {
@@ -73,8 +64,8 @@ int main(void) {
     polytwkb_report packed = polytwkb_pack(table, length, blobs, ROOM, polytwkb_standard_limits(), POLYTWKB_FULL);
     if (packed.status != POLYTWKB_DONE) return 1;
     const library_call calls[] = {
-        {"pack", table, length},         {"pack plain", table, length},   {"unpack", blobs, packed.sent},
-        {"show", blobs, packed.sent},    {"measure pack", table, length}, {"measure unpack", blobs, packed.sent},
+        {"pack", table, length},      {"pack plain", table, length},   {"unpack", blobs, packed.sent},
+        {"show", blobs, packed.sent}, {"measure pack", table, length}, {"measure unpack", blobs, packed.sent},
     };
     for (size_t number = 0; number < sizeof calls / sizeof *calls; number++) {
         for (int all = 0; all < 2; all++) {

@@ -31,9 +31,7 @@ static void check(bool holds, const char *what) {
 }
 
 // The size of a block, from 0 up; of the next number it is larger or smaller.
-static size_t size_of(int number) {
-    return (size_t)(number * number * 7 % 5000);
-}
+static size_t size_of(int number) { return (size_t)(number * number * 7 % 5000); }
 
 static bool holds_only(const unsigned char *block, size_t size, int value) {
     for (size_t place = 0; place < size; place++) {
@@ -71,7 +69,8 @@ static void words(void) {
     char buffer[] = "........";
     check(rattle_arg_count() == 3, "there are three words");
     check(rattle_arg(1, buffer, 3) == 3 && strcmp(buffer, "one.....") == 0, "a word is written into its exact room");
-    check(rattle_arg(2, buffer, 2) == -2 && strcmp(buffer + 2, "e.....") == 0, "a word without room, nothing after the room");
+    check(rattle_arg(2, buffer, 2) == -2 && strcmp(buffer + 2, "e.....") == 0,
+          "a word without room, nothing after the room");
     check(rattle_arg(3, buffer, sizeof buffer) == -1, "no fourth word");
 }
 

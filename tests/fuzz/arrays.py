@@ -12,7 +12,11 @@ NO_PRECISION = -128
 
 class Row(ctypes.Structure):
     _fields_ = [
-        ("id", ctypes.c_int64), ("points", ctypes.c_uint64), ("depth", ctypes.c_uint32), ("kind", ctypes.c_uint16), ("has_id", ctypes.c_uint8),
+        ("id", ctypes.c_int64),
+        ("points", ctypes.c_uint64),
+        ("depth", ctypes.c_uint32),
+        ("kind", ctypes.c_uint16),
+        ("has_id", ctypes.c_uint8),
         ("precision", ctypes.c_int8),
     ]
 
@@ -40,7 +44,16 @@ def arrays_of(geometry, depth=0, identifier=None, is_whole=True):
                 more = arrays_of(geometry._replace(kind=part, ids=None, members=member), depth + 1, identifier, False)
             else:
                 member = [member] if part == "point" else member
-                more = [(identifier or 0, len(member), depth + 1, KIND_NAMES.index(part), identifier is not None, NO_PRECISION)], member
+                more = [
+                    (
+                        identifier or 0,
+                        len(member),
+                        depth + 1,
+                        KIND_NAMES.index(part),
+                        identifier is not None,
+                        NO_PRECISION,
+                    )
+                ], member
         else:
             more = arrays_of(member, depth + 1, identifier)
         rows, points = rows + more[0], points + list(more[1])
@@ -81,7 +94,9 @@ def judged(rows, row, ahead, nest):
     kind, identifier, points = KIND_NAMES[kind], identifier if has_id else None, ahead[:count]
     precision = None if precision == NO_PRECISION else precision
     fault, parent = place_fault(rows, depth, kind, nest)
-    fault = fault or has_rule(rows, parent, depth, kind, identifier, precision) or points_fault(rows, parent, kind, points)
+    fault = (
+        fault or has_rule(rows, parent, depth, kind, identifier, precision) or points_fault(rows, parent, kind, points)
+    )
     return fault or Accepted(depth, kind, identifier, precision, points)
 
 
@@ -113,8 +128,12 @@ def index_outside(rows, points, fault):
 
 # Values of each field of a row for slips.
 FIELDS = {
-    0: (0, 1, -1, 7, 2**63 - 1, -(2**63)), 1: (0, 1, 1, 2, 3, 2**32, 2**63, 2**64 - 1), 2: (0, 0, 1, 1, 2, 3, 9, 2**32 - 1),
-    3: (0, 1, 2, 3, 4, 5, 6, 7, 8, 9, 2**16 - 1), 4: (0, 0, 1, 1, 2, 255), 5: (NO_PRECISION, NO_PRECISION, 0, 5, -8, 7, 8, -9, 127, -127),
+    0: (0, 1, -1, 7, 2**63 - 1, -(2**63)),
+    1: (0, 1, 1, 2, 3, 2**32, 2**63, 2**64 - 1),
+    2: (0, 0, 1, 1, 2, 3, 9, 2**32 - 1),
+    3: (0, 1, 2, 3, 4, 5, 6, 7, 8, 9, 2**16 - 1),
+    4: (0, 0, 1, 1, 2, 255),
+    5: (NO_PRECISION, NO_PRECISION, 0, 5, -8, 7, 8, -9, 127, -127),
 }
 
 

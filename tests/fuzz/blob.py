@@ -1,7 +1,21 @@
 """Blobs: the items of a stream first, as far as headers and counts lead; then what the whole list of them says."""
 from itertools import accumulate
 
-from geometry import DOUBLE, KINDS, LEAST, MOST, NODES, POINTS, Geometry, box_of, differences, has_box, points_of, signed, zigzag
+from geometry import (
+    DOUBLE,
+    KINDS,
+    LEAST,
+    MOST,
+    NODES,
+    POINTS,
+    Geometry,
+    box_of,
+    differences,
+    has_box,
+    points_of,
+    signed,
+    zigzag,
+)
 
 PRECISIONS = [signed(bits) for bits in range(16)]
 BOX, SIZE, IDS, EXTENDED, EMPTY = 1, 2, 4, 8, 16

@@ -72,13 +72,17 @@ class Columns:
         pairs = list(zip(rounded[::2], rounded[1::2]))
         forms = [array("d", numbers), list(zip(numbers[::2], numbers[1::2]))]
         form = chance.choice([*forms, numpy.array(numbers).reshape(-1, 2)] if numpy else forms)
-        assert self.package.write(rows, form) == self.package.write(rows, pairs), f"the package writes {numbers} at {precisions} otherwise"
+        assert self.package.write(rows, form) == self.package.write(
+            rows, pairs
+        ), f"the package writes {numbers} at {precisions} otherwise"
         self.met("degrees ok")
 
     def ragged(self, chance, _):
         """Columns of one kind, with gaps: coordinates and offsets are those that a walk over the mappings gives, and go back to the blobs."""
         kind, precision = chance.choice(KINDS[:6]), chance.randint(-8, 7)
-        trees = [tree for tree in (some_tree(chance) for _ in range(25)) if tree.kind == kind][: chance.choice((1, 2, 3))]
+        trees = [tree for tree in (some_tree(chance) for _ in range(25)) if tree.kind == kind][
+            : chance.choice((1, 2, 3))
+        ]
         if not trees or not numpy:
             return
         trees = [with_precision(tree, precision)._replace(ids=None) for tree in trees]
@@ -89,26 +93,41 @@ class Columns:
         mappings = self.package.geometries(blobs)
         coordinates, offsets = walked(mappings, DEPTHS[kind])
         if kind == "point":
-            coordinates = [list(mapping["coordinates"]) or [math.nan] * 2 if mapping else [math.nan] * 2 for mapping in mappings]
+            coordinates = [
+                list(mapping["coordinates"]) or [math.nan] * 2 if mapping else [math.nan] * 2 for mapping in mappings
+            ]
         same = numpy.array_equal(column.coordinates, numpy.array(coordinates, float).reshape(-1, 2), equal_nan=True)
         found = [part.tolist() for part in column.offsets]
         assert same and found == offsets, f"the column of {blobs} is another: {column}, not {coordinates}, {offsets}"
-        assert column.missing.tolist() == [place for place, one in enumerate(blobs) if one is None], f"{blobs} lacks others: {column.missing}"
+        assert column.missing.tolist() == [
+            place for place, one in enumerate(blobs) if one is None
+        ], f"{blobs} lacks others: {column.missing}"
         wanted = [one and blob.canonical(blob.spelled_in(one, 16)[0][0], True) for one in blobs]
         in_range = all(abs(number) < 2**52 for tree in trees for point in points_of(tree) for number in point)
         if in_range:
-            assert self.package.pack_ragged(column, precision).blobs == wanted, f"the column of {blobs} goes back otherwise"
+            assert (
+                self.package.pack_ragged(column, precision).blobs == wanted
+            ), f"the column of {blobs} goes back otherwise"
         self.met(f"ragged {kind}{'' if in_range else ', too far to go back'}")
 
     def listed(self, chance, _):
         """Items of a list that are no blob are kept apart, and the others stay at their places."""
         blobs = [blob.canonical(some_tree(chance), chance.random() < 0.5) for _ in range(chance.choice((1, 2, 4)))]
-        given = [chance.choice((one, one, None, one[:-1], one + chance.choice(blobs), b"", stream_slip(chance, one))) for one in blobs]
+        given = [
+            chance.choice((one, one, None, one[:-1], one + chance.choice(blobs), b"", stream_slip(chance, one)))
+            for one in blobs
+        ]
         found, refused = self.package.geometries(given, errors="collect")
         judged = [None if one is None else judged_item(one) for one in given]
-        wanted = [None if one is None or fault else self.package.geometries(one)[0] for one, fault in zip(given, judged)]
+        wanted = [
+            None if one is None or fault else self.package.geometries(one)[0] for one, fault in zip(given, judged)
+        ]
         faults = [(place, *fault) for place, fault in enumerate(judged) if fault]
         assert found == wanted, f"the list {given} has others: {found}"
-        assert [(one.done, one.place, one.text) for one in refused] == faults, f"the list {given} is refused otherwise: {refused}, not {faults}"
-        assert [str(one) for one in self.package.check(given)] == [str(one) for one in refused], f"check of {given} differs"
+        assert [
+            (one.done, one.place, one.text) for one in refused
+        ] == faults, f"the list {given} is refused otherwise: {refused}, not {faults}"
+        assert [str(one) for one in self.package.check(given)] == [
+            str(one) for one in refused
+        ], f"check of {given} differs"
         self.met(f"list with {min(len(faults), 2)} faults")

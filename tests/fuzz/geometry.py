@@ -41,7 +41,11 @@ def precisions_of(geometry):
     return {geometry.precision}.union(*(precisions_of(member) for member in geometry.members))
 
 
-NAMES = dict(zip(KINDS, ("Point", "LineString", "Polygon", "MultiPoint", "MultiLineString", "MultiPolygon", "GeometryCollection")))
+NAMES = dict(
+    zip(
+        KINDS, ("Point", "LineString", "Polygon", "MultiPoint", "MultiLineString", "MultiPolygon", "GeometryCollection")
+    )
+)
 
 
 def with_precision(geometry, precision):

@@ -4,7 +4,25 @@ from geometry import KINDS
 from polyline import spelled
 from table import HEADER_LINE, records_of
 
-NUMBERS = [0, 1, 2, 3, 127, 128, 2**14, 2**20 - 1, 2**20, 2**20 + 1, 2**24, 2**24 + 1, 2**32, 2**62, 2**63, 2**64 - 2, 2**64 - 1]
+NUMBERS = [
+    0,
+    1,
+    2,
+    3,
+    127,
+    128,
+    2**14,
+    2**20 - 1,
+    2**20,
+    2**20 + 1,
+    2**24,
+    2**24 + 1,
+    2**32,
+    2**62,
+    2**63,
+    2**64 - 2,
+    2**64 - 1,
+]
 OVERLONG = [b"\xff" * 10, b"\xff" * 9 + b"\x02", b"\x80" * 9 + b"\x7f", b"\x80" * 12, b"\xff" * 9]
 
 
@@ -49,7 +67,9 @@ def cut(chance, text):
 def spliced(chance, text):
     """A piece of the text again, or left out, or moved."""
     start, end, place = sorted(chance.randrange(len(text) + 1) for _ in range(3))
-    return chance.choice((text[:end] + text[start:], text[:start] + text[end:], text[:start] + text[end:place] + text[start:end]))
+    return chance.choice(
+        (text[:end] + text[start:], text[:start] + text[end:], text[:start] + text[end:place] + text[start:end])
+    )
 
 
 def announced(chance, nest):
@@ -68,12 +88,56 @@ def stream_slip(chance, stream):
     return stream
 
 
-DEPTHS = ["", "0", "1", "2", "3", "17", "33", "999", "1000", "00", "01", "-1", "+1", "-0", " 1", "1 ", "x", "99999999999999999999"]
+DEPTHS = [
+    "",
+    "0",
+    "1",
+    "2",
+    "3",
+    "17",
+    "33",
+    "999",
+    "1000",
+    "00",
+    "01",
+    "-1",
+    "+1",
+    "-0",
+    " 1",
+    "1 ",
+    "x",
+    "99999999999999999999",
+]
 KIND_WORDS = list(KINDS) + ["ring", "pont", "", "Point", " point", "multiring"]
-ID_WORDS = ["", "0", "7", "-1", "9223372036854775807", "-9223372036854775808", "9223372036854775808", "-9223372036854775809"]
+ID_WORDS = [
+    "",
+    "0",
+    "7",
+    "-1",
+    "9223372036854775807",
+    "-9223372036854775808",
+    "9223372036854775808",
+    "-9223372036854775809",
+]
 ID_WORDS += ["-0", "+1", "01", "x", "1.0", " ", "\u0661"]
 PRECISION_WORDS = ["", "0", "7", "-8", "8", "-9", "-0", "+1", "01", "00", "x", "127", "-128", "256", " 0"]
-POLYLINES = ["", "AC", "AA", "A", "_", "_?", "A A", "~" * 13, "~" * 12 + " ", "_" * 12 + "G?", "_" * 12 + "O", "AAAA", "??", "AAA", "\x7f"]
+POLYLINES = [
+    "",
+    "AC",
+    "AA",
+    "A",
+    "_",
+    "_?",
+    "A A",
+    "~" * 13,
+    "~" * 12 + " ",
+    "_" * 12 + "G?",
+    "_" * 12 + "O",
+    "AAAA",
+    "??",
+    "AAA",
+    "\x7f",
+]
 FIELDS = (DEPTHS, KIND_WORDS, ID_WORDS, PRECISION_WORDS, POLYLINES)
 
 
@@ -87,7 +151,11 @@ def polyline_slip(chance, text):
 
 def record_slip(chance, records):
     """One record, or one field of it, changed; the header's seldom."""
-    place = chance.randrange(len(records)) if chance.random() < 0.1 else chance.randrange(min(1, len(records) - 1), len(records))
+    place = (
+        chance.randrange(len(records))
+        if chance.random() < 0.1
+        else chance.randrange(min(1, len(records) - 1), len(records))
+    )
     record = list(records[place])
     column = chance.randrange(5)
     kind = chance.random()
@@ -141,5 +209,7 @@ def table_slip(chance, text):
 
 def any_bytes(chance):
     """Bytes that were no stream and no table to begin with, with a header in front now and then."""
-    text = bytes(chance.choice((0, 1, 2, 7, 16, 34, 44, 48, 65, 95, 126, 128, 255, 10)) for _ in range(chance.randrange(40)))
+    text = bytes(
+        chance.choice((0, 1, 2, 7, 16, 34, 44, 48, 65, 95, 126, 128, 255, 10)) for _ in range(chance.randrange(40))
+    )
     return (HEADER_LINE if chance.random() < 0.3 else b"") + text

@@ -14,7 +14,9 @@ def coordinate(chance):
         return chance.randint(-18000000, 18000000)
     if kind < 0.9:
         return chance.choice(EDGES)
-    return chance.choice((LEAST, MOST, LEAST + chance.randint(0, 2), MOST - chance.randint(0, 2), chance.randint(LEAST, MOST)))
+    return chance.choice(
+        (LEAST, MOST, LEAST + chance.randint(0, 2), MOST - chance.randint(0, 2), chance.randint(LEAST, MOST))
+    )
 
 
 def some_points(chance, most=6):

@@ -68,8 +68,11 @@ class Polylines(unittest.TestCase):
 class GeoJson(unittest.TestCase):
     features = [
         {"type": "Feature", "properties": {"features": [1, -2.5e-07, True]}, "geometry": None},
-        {"type": "Feature", "properties": {"é\"\\": "\u2028}]"}, "geometry":
-         {"type": "Point", "coordinates": [1.5, -2]}},
+        {
+            "type": "Feature",
+            "properties": {'é"\\': "\u2028}]"},
+            "geometry": {"type": "Point", "coordinates": [1.5, -2]},
+        },
     ]
 
     def read(self, text, piece):
@@ -106,8 +109,12 @@ class Scripts(unittest.TestCase):
 
     def run_script(self, given, script, *words):
         """The status, the output and the line of a script."""
-        run = subprocess.run([sys.executable, os.path.join(RECIPES, script), *words], cwd=self.folder.name,
-                             input=given if isinstance(given, bytes) else given.encode(), capture_output=True)
+        run = subprocess.run(
+            [sys.executable, os.path.join(RECIPES, script), *words],
+            cwd=self.folder.name,
+            input=given if isinstance(given, bytes) else given.encode(),
+            capture_output=True,
+        )
         return run.returncode, run.stdout.decode(), run.stderr.decode()
 
     def read(self, name):
@@ -172,7 +179,7 @@ class Columns(Scripts):
         texts = {
             "id,polyline\n1,yop}Gysml@\n2\n": "record 3: 1 fields, and 2 in the header",
             'id,polyline\n"a\nb",yop}Gysml@\n\n2,NA\n': "record 3, line 5: NA in place of a polyline; "
-                                                         "--null 'NA' takes it as empty",
+            "--null 'NA' takes it as empty",
         }
         for text, said in texts.items():
             self.refused(text, said, self.SCRIPT, *self.WORDS)
@@ -197,7 +204,7 @@ class Columns(Scripts):
 class Places(Scripts):
     # 46.94797, 7.44781 and 46.94758, 7.44432 by five decimals; the polyline is of docs/USING.md.
     def test_stops_both_ways(self):
-        text = "stop_name,stop_id,stop_lat,stop_lon\n\"Bern, Bahnhof\",101,46.94797,7.44781\nentrance,102,,\n"
+        text = 'stop_name,stop_id,stop_lat,stop_lon\n"Bern, Bahnhof",101,46.94797,7.44781\nentrance,102,,\n'
         status, output, _ = self.run_script(text, "stops_to_table.py", "--rest", "my.rest", "5", "my.keys")
         self.assertEqual((status, output), (0, TABLE + "0,point,,5,yop}Gysml@\n0,point,,5,\n"))
         self.assertEqual(self.read("my.keys"), "101\n102\n")
@@ -211,8 +218,10 @@ class Places(Scripts):
         self.assertEqual((status, output), (0, TABLE + "0,point,,5,\n"))
 
     def test_shapes_both_ways(self):
-        text = ("shape_id,shape_pt_lat,shape_pt_lon,shape_pt_sequence,far\n"
-                "b,46.94758,7.44432,10,2.5\na,46.94797,7.44781,1,\nb,46.94797,7.44781,9,0\n")
+        text = (
+            "shape_id,shape_pt_lat,shape_pt_lon,shape_pt_sequence,far\n"
+            "b,46.94758,7.44432,10,2.5\na,46.94797,7.44781,1,\nb,46.94797,7.44781,9,0\n"
+        )
         status, output, line = self.run_script(text, "shapes_to_table.py", "--rest", "my.rest", "5", "my.keys")
         rows = "0,linestring,,5,yop}Gysml@lAxT\n0,linestring,,5,yop}Gysml@\n"
         self.assertEqual((status, output), (0, TABLE + rows))
@@ -226,8 +235,15 @@ class Places(Scripts):
         self.refused(text, "two points of b have the sequence 7", "shapes_to_table.py", "5", "my.keys")
 
     def test_decimals(self):
-        cases = {(4694797, 5): "46.94797", (-1, 5): "-0.00001", (4694500, 5): "46.94500", (7, 0): "7", (7, -1): "70",
-                 (-(2**62), 7): "-461168601842.7387904", (0, 3): "0.000"}
+        cases = {
+            (4694797, 5): "46.94797",
+            (-1, 5): "-0.00001",
+            (4694500, 5): "46.94500",
+            (7, 0): "7",
+            (7, -1): "70",
+            (-(2**62), 7): "-461168601842.7387904",
+            (0, 3): "0.000",
+        }
         for (number, precision), text in cases.items():
             self.assertEqual(polylines.decimal_text(number, precision), text)
 
@@ -239,12 +255,18 @@ class Collections(Scripts):
         point, line = {"type": "Point", "coordinates": [2, 1]}, {"type": "LineString", "coordinates": []}
         features = [{"type": "Feature", "properties": {}, "geometry": geometry} for geometry in (point, line)]
         self.assertEqual((status, json.loads(output)), (0, {"type": "FeatureCollection", "features": features}))
-        self.assertEqual(self.run_script(TABLE, "table_to_geojson.py", "--collection")[1],
-                         '{"type":"FeatureCollection","features":[\n]}\n')
+        self.assertEqual(
+            self.run_script(TABLE, "table_to_geojson.py", "--collection")[1],
+            '{"type":"FeatureCollection","features":[\n]}\n',
+        )
 
     def test_an_array(self):
-        self.refused('[{"type": "Point", "coordinates": [1, 2]}]', "feature 1: an array in place of a "
-                     "FeatureCollection; jq -c '.[]' makes lines of one", "geojson_to_table.py", "5")
+        self.refused(
+            '[{"type": "Point", "coordinates": [1, 2]}]',
+            "feature 1: an array in place of a " "FeatureCollection; jq -c '.[]' makes lines of one",
+            "geojson_to_table.py",
+            "5",
+        )
 
 
 if __name__ == "__main__":

@@ -5,6 +5,7 @@
 pub mod blob_reader;
 pub mod blob_writer;
 pub mod fault;
+pub mod geojson_writer;
 pub mod geometry;
 pub mod header;
 pub mod input;

@@ -1,10 +1,11 @@
-//! `plain pack`, `plain unpack` and `plain show`, from standard input to standard output.
+//! `plain pack`, `plain unpack`, `plain geojson` and `plain show`, from standard input to standard output.
 //! `plain records` names what records of tables are read by.
 #![forbid(unsafe_code)]
 
 use plain::blob_reader::{BlobReader, Header, Listener};
 use plain::blob_writer::put_blob;
 use plain::fault::Fault;
+use plain::geojson_writer::put_geojson;
 use plain::geometry::{Geometry, Label, Point, Row};
 use plain::numbers::{put_decimal, put_signed_decimal};
 use plain::output::Output;
@@ -118,6 +119,16 @@ fn unpack(input: impl Read, output: &mut Output<impl Write>) -> Result<(), Fault
     Ok(())
 }
 
+fn geojson(input: impl Read, output: &mut Output<impl Write>) -> Result<(), Fault> {
+    let mut reader = BlobReader::new(input);
+    let mut filling = Filling::default();
+    while reader.next(&mut filling)? {
+        put_geojson(&filling.0, output)?;
+        filling.0.clear();
+    }
+    Ok(())
+}
+
 fn show(input: impl Read, output: &mut Output<impl Write>) -> Result<(), Fault> {
     let mut reader = BlobReader::new(input);
     let mut spans = Spans::default();
@@ -138,6 +149,7 @@ fn run(word: &str) -> Result<(), Fault> {
     let ended = match word {
         "pack" => pack(input, &mut output),
         "unpack" => unpack(input, &mut output),
+        "geojson" => geojson(input, &mut output),
         "show" => show(input, &mut output),
         _ => {
             output
@@ -153,8 +165,8 @@ fn run(word: &str) -> Result<(), Fault> {
 
 fn main() -> ExitCode {
     let word = std::env::args().nth(1).unwrap_or_default();
-    if !["pack", "unpack", "show", "records"].contains(&word.as_str()) {
-        eprintln!("plain pack, plain unpack, plain show, or plain records");
+    if !["pack", "unpack", "geojson", "show", "records"].contains(&word.as_str()) {
+        eprintln!("plain pack, plain unpack, plain geojson, plain show, or plain records");
         return ExitCode::from(2);
     }
     match run(&word) {
