@@ -215,11 +215,11 @@ extension GDAL "$gdal_package" ogrinfo
 # apt-get, below, has a server use this one
 extension PostgreSQL "$postgresql_package" "/usr/lib/postgresql/$major/bin/postgres"
 
-# Installs the package into a fresh environment, by the line that both READMEs show, and uses it there outside the
-# repository.
+# Installs the package into a fresh environment, by the line that docs/USING.md and python/README.md show, and uses it
+# there outside the repository.
 by_pip() {
   local line
-  line=$(grep -o 'python3 -m venv env[^`]*' README.md) && grep -xF "    $line" python/README.md || return 1
+  line=$(grep -o 'python3 -m venv env[^`]*' docs/USING.md) && grep -xF "    $line" python/README.md || return 1
   mkdir "$1" && cp "$wheel" "$1" && (cd "$1" && eval "$line")
 }
 # The same from the sources, over the library that is built.
